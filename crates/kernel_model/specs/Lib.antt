@@ -1,0 +1,16 @@
+pub mod Pages
+pub mod Plans
+pub mod Progress
+pub mod SignalSets
+pub mod Nodes
+pub mod Signals
+pub mod MemoryCalls
+pub mod LocalCalls
+pub mod SignalCalls
+pub mod CloneCalls
+pub mod Calls
+pub mod Traps
+pub mod Layout
+pub mod Spaces
+pub mod OneKernel
+pub mod Steps

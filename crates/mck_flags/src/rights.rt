@@ -1,0 +1,38 @@
+// The rights of a page.
+ghost use Rattle.std.specs.Prelude.{⊤, ◌≡◌, [], ◌∷◌, codes};
+
+use bitflags::{Flag, Flags, bitflag_items};
+
+/// The rights of a page: read 1, write 2, execute 4.
+#[derive(Clone, Copy, PartialEq, Eq, Debug)]
+pub struct Rights(pub u8);
+
+bitflag_items! {
+    impl Rights: u8 {
+        const READ = 1;
+        const WRITE = 2;
+        const EXEC = 4;
+    }
+}
+
+impl Flags for Rights {
+    type Bits = u8;
+
+    ghost exact = { ⊤ };
+
+    ghost table = { (codes "READ", 1) ∷ (codes "WRITE", 2) ∷ (codes "EXEC", 4) ∷ [] };
+
+    ghost set_of = { λ r. r.0 };
+
+    fn flags<'a>() -> &'a [Flag<Rights>] {
+        Rights::FLAGS
+    }
+
+    fn bits(&self) -> u8 {
+        self.0
+    }
+
+    fn from_bits_retain(bits: u8) -> Rights {
+        Rights(bits)
+    }
+}

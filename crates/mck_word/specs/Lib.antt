@@ -1,0 +1,10 @@
+pub mod Word
+pub mod Pieces
+pub mod Pages
+pub mod Lists
+pub mod Words
+pub mod Maps
+pub mod MapLaws
+pub mod Slots
+pub mod Numbers
+pub mod Identifiers
