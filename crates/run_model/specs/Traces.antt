@@ -41,8 +41,11 @@ version n = Line (Text (codes "mctrace") ∷ Number n ∷ [])
 abbrev event_lines : List Event → List Part
 event_lines journal = map (λ e. Line (words_of e)) journal
 
+abbrev pub trace_parts : List Event → List Part
+trace_parts journal = version 2 ∷ event_lines journal
+
 abbrev pub trace : List Event → List ℕ
-trace journal = text_of (version 2 ∷ event_lines journal)
+trace journal = text_of (trace_parts journal)
 
 -- an event that version 1 has too
 abbrev is_of_first : Event → Bool
