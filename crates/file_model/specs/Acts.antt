@@ -1,6 +1,9 @@
 -- The acts of the file calls. The checks of each stand in the order in which they are made.
 use Rattle.file_model.specs.Errno.{ENOENT, EBADF, EBUSY, EEXIST, ENOTDIR, EISDIR, EINVAL, EMFILE, ENOTTY, ENOSPC, ESPIPE, ENOTEMPTY}
-use Rattle.file_model.specs.Files.{Files, Inode, Target, OfNode, ReadEnd, WriteEnd, OfConsole, Description, node_of, named_by, descriptors_of, set_node, set_description, settled, hold, most_descriptors, most_nodes, Name, closed, description_of, lowest_free, made, opened, set_pipe}
+use Rattle.file_model.specs.declared.descriptions.Description.{Description}
+use Rattle.file_model.specs.declared.descriptions.Target.{Target}
+use Rattle.file_model.specs.declared.descriptions.Target.TheVariants.{OfNode, ReadEnd, WriteEnd, OfConsole}
+use Rattle.file_model.specs.Files.{Files, Inode, node_of, named_by, descriptors_of, change_node, set_bytes, set_offset, settled, hold, most_descriptors, most_nodes, Name, closed, description_of, lowest_free, made, opened, set_pipe}
 use Rattle.file_model.specs.Operations.{FileResult, done, fails}
 use Rattle.file_model.specs.Paths.{Place, Present, Absent, NoPlace, place_of, place_of_names, names_of, ends_with_slash, dot, dot_dot, names_in, child, is_unlinked}
 use Rattle.mck_word.specs.Lists.{all_but_last}
@@ -39,7 +42,7 @@ open_node files process flags number =
   done (pos (lowest_free (descriptors_of files process))) (opened process (OfNode number) (may_read flags) (may_write flags) (O_APPEND flags) files)
 
 abbrev cut_to_nothing : Bool → ℕ → Files → Files
-cut_to_nothing cut n files = cond cut (set_node n (record (node_of files n) { bytes = [] }) files) files
+cut_to_nothing cut n files = cond cut (set_bytes n [] files) files
 
 abbrev open_place : Files → ℕ → ℕ → List ℕ → Place → FileResult
 open_place files process flags text (NoPlace errno) = fails errno files
@@ -74,8 +77,12 @@ mkdirat files process dirfd text = make_directory files (place_of files process 
 abbrev pub AT_REMOVEDIR : ℕ
 AT_REMOVEDIR = 0x200
 
+-- the node has no name any more
+abbrev pub unlink : ℕ → Files → Files
+unlink n files = settled (change_node n (λ (x : Inode). record x { name = None }) files)
+
 abbrev unlinked : ℕ → Files → FileResult
-unlinked n files = done (pos 0) (settled (set_node n (record (node_of files n) { name = None }) files))
+unlinked n files = done (pos 0) (unlink n files)
 
 abbrev holds_names : Files → ℕ → Bool
 holds_names files n = nat_lt 0 (length (names_in files n))
@@ -123,7 +130,7 @@ ioctl files process fd = with_description files process fd (λ d x. fails ENOTTY
 
 abbrev seek_to : Files → ℕ → ℤ → FileResult
 seek_to files d (negsuc n) = fails EINVAL files
-seek_to files d (pos n) = cond (nat_lt n (2 ^ 63)) (done (pos n) (set_description d (record (description_of files d) { offset = n }) files)) (fails EINVAL files)
+seek_to files d (pos n) = cond (nat_lt n (2 ^ 63)) (done (pos n) (set_offset d n files)) (fails EINVAL files)
 
 abbrev seek_from : Files → ℕ → Inode → ℤ → ℤ → FileResult
 seek_from files d node offset (negsuc n) = fails EINVAL files
@@ -214,9 +221,8 @@ joined (r ∷ rs) = r ++ joined rs
 abbrev list_records : Files → ℕ → ℕ → List (List ℕ) → FileResult
 list_records files d most left =
   let fit = records_that_fit (min most 65_536) left in
-  let x = description_of files d in
   cond (nat_lt 0 (length left) && length fit == 0) (fails EINVAL files)
-  (record { answer = pos (length (joined fit)); out = joined fit; files = set_description d (record x { offset = x.offset + length fit }) files })
+  (record { answer = pos (length (joined fit)); out = joined fit; files = set_offset d ((description_of files d).offset + length fit) files })
 
 abbrev list_node : Files → ℕ → ℕ → ℕ → FileResult
 list_node files d most n =

@@ -1,4 +1,7 @@
 -- The files of the node: nodes of the tree, pipes, open descriptions, descriptors and consoles, each by its number. The lists and limits are this project's own; the words are those of man-pages (open, pipe).
+use Rattle.file_model.specs.declared.descriptions.Description.{Description}
+use Rattle.file_model.specs.declared.descriptions.Target.{Target}
+use Rattle.file_model.specs.declared.descriptions.Target.TheVariants.{OfNode, ReadEnd, WriteEnd, OfConsole}
 use Rattle.mck_word.specs.Lists.{lowest_not_in}
 use Rattle.mck_word.specs.Maps.{Map, at, put, cut, change, collect, keys, no_rows, some_row, total}
 use Rattle.std.specs.Prelude.{ℕ, ◌+◌, ◌-◌, Bool, true, false, cond, ◌||◌, ◌==◌, List, [], length, is_some, nat_lt, unwrap_or, Option, Some, None}
@@ -17,19 +20,6 @@ pub record Inode : Type 0 where
 pub record Console : Type 0 where
   pub input : List ℕ
   pub output : List ℕ
-
--- What a description is open on.
-pub data Target : Type 0 where
-  OfNode ReadEnd WriteEnd OfConsole : ℕ → Target
-
--- An open description: shared by the descriptors that name it and by the calls that hold it. The offset of a directory is its place.
-pub record Description : Type 0 where
-  pub target : Target
-  pub readable : Bool
-  pub writable : Bool
-  pub append : Bool
-  pub offset : ℕ
-  pub calls : ℕ
 
 -- `pipes` are the bytes of each pipe, `descriptors` the description of each descriptor of each process, `consoles` those of the guests.
 pub record Files : Type 0 where
@@ -113,12 +103,26 @@ total_bytes files = total (λ (x : Inode). length x.bytes) files.nodes
 
 -- ---- changing
 
-abbrev pub set_description : ℕ → Description → Files → Files
-set_description d x files = record files { descriptions = put files.descriptions d x }
+-- what is there under a number is changed, and nothing where nothing is there
+abbrev pub change_description : ℕ → (Description → Description) → Files → Files
+change_description d f files = record files { descriptions = change files.descriptions d f }
 
-abbrev pub set_node : ℕ → Inode → Files → Files
-set_node n x files = record files { nodes = put files.nodes n x }
+abbrev pub change_node : ℕ → (Inode → Inode) → Files → Files
+change_node n f files = record files { nodes = change files.nodes n f }
 
+abbrev pub change_pipe : ℕ → (List ℕ → List ℕ) → Files → Files
+change_pipe p f files = record files { pipes = change files.pipes p f }
+
+abbrev pub change_console : ℕ → (Console → Console) → Files → Files
+change_console guest f files = record files { consoles = change files.consoles guest f }
+
+abbrev pub set_offset : ℕ → ℕ → Files → Files
+set_offset d offset files = change_description d (λ (x : Description). record x { offset = offset }) files
+
+abbrev pub set_bytes : ℕ → List ℕ → Files → Files
+set_bytes n bytes files = change_node n (λ (x : Inode). record x { bytes = bytes }) files
+
+-- a pipe without bytes, and a console
 abbrev pub set_pipe : ℕ → List ℕ → Files → Files
 set_pipe p bytes files = record files { pipes = put files.pipes p bytes }
 

@@ -1,6 +1,8 @@
 -- Paths: their names, where they lead in the tree, and the path of a node (man-pages path_resolution; the order of errors is this project's own).
 use Rattle.file_model.specs.Errno.{ENOENT, EBADF, ENOTDIR, ENAMETOOLONG}
-use Rattle.file_model.specs.Files.{Files, Inode, Name, Target, OfNode, ReadEnd, WriteEnd, OfConsole, description_of, made, named_by, node_of, root, set_node}
+use Rattle.file_model.specs.Files.{Files, Inode, Name, description_of, made, named_by, node_of, root, set_bytes}
+use Rattle.file_model.specs.declared.descriptions.Target.{Target}
+use Rattle.file_model.specs.declared.descriptions.Target.TheVariants.{OfNode, ReadEnd, WriteEnd, OfConsole}
 use Rattle.mck_word.specs.Lists.{sorted_by}
 use Rattle.mck_word.specs.Maps.{count, entries}
 use Rattle.std.specs.Cmp.Lexicographic.{slice_cmp}
@@ -141,8 +143,7 @@ place_of files process dirfd text = checked_slash files text (place_of_names fil
 -- the directories above the last name are made where they are missing, then the file with its bytes
 abbrev pub add_file : ℕ → List Name → List ℕ → Files → Files
 add_file here [] bytes files = files
-add_file here (name ∷ []) bytes files =
-  let n = files.next_node in set_node n (record (node_of (made here name false files) n) { bytes = bytes }) (made here name false files)
+add_file here (name ∷ []) bytes files = set_bytes files.next_node bytes (made here name false files)
 add_file here (name ∷ next ∷ names) bytes files = elim (child files here name) [
   | None ↦ add_file files.next_node (next ∷ names) bytes (made here name true files)
   | Some n ↦ add_file n (next ∷ names) bytes files ]

@@ -1,6 +1,8 @@
 -- The events of the Linux side, each over the parts of the process that it reads or changes.
 use Rattle.clear_rounds.specs.declared.Phase.TheVariants.{Taken}
-use Rattle.file_model.specs.Files.{Files, OfConsole, OfNode, ReadEnd, Target, WriteEnd, description_of}
+use Rattle.file_model.specs.Files.{Files, description_of}
+use Rattle.file_model.specs.declared.descriptions.Target.{Target}
+use Rattle.file_model.specs.declared.descriptions.Target.TheVariants.{OfConsole, OfNode, ReadEnd, WriteEnd}
 use Rattle.file_model.specs.declared.operations.Readiness.{Readiness}
 use Rattle.hybrid_model.specs.Sides.{LinuxSide, Book, Service, Row, Round, Turn, with_state, state_of, serves, served, service_of, with_service, looked_up, pin_of, with_phase}
 use Rattle.hybrid_model.specs.Spaces.{first_number, rest_numbers}
