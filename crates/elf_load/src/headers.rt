@@ -129,7 +129,7 @@ fn rights_of(flags: u32) -> Rights
 }
 
 // The rules of one program header.
-#[tactic(auto, unfolding(crate::specs::Profile::segment_of))]
+#[tactic(auto, using(crate::proofs::Images::rights_kept), unfolding(crate::specs::Profile::segment_of))]
 fn read_segment(bytes: &[u8], at: usize, number: u16) -> Result<Option<Placed>, ElfError>
     requires { at + 56 ≤ length bytes.now }
     ensures value { Gives (λ segment. segment) result (segment_of bytes.now at number) }

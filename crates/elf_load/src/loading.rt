@@ -1,8 +1,8 @@
 // From the bytes of a file to the image.
-ghost use Rattle.std.specs.Prelude.{◌≡◌, ◌≤◌, ◌<◌, ◌+◌, ◌*◌, ◌==◌, ◌&&◌, ◌%◌, IfOk, map, All, length, find, List, [], take, drop};
+ghost use Rattle.std.specs.Prelude.{◌≡◌, ◌≤◌, ◌<◌, ◌+◌, ◌*◌, ◌==◌, ◌&&◌, ◌%◌, IfOk, OnOk, map, All, length, find, List, [], take, drop};
 ghost use Rattle.std.specs.List.{list_any};
 ghost use Rattle.std.specs.Option.{option_copied};
-ghost use Rattle.elf_load.specs.Kept.{IsInside};
+ghost use Rattle.elf_load.specs.Kept.{IsInside, AreApart, IsImage, IsSegment, IsLoaded};
 ghost use Rattle.elf_load.specs.Profile.{apart, image_of, Gives, LoadGives, last_page, shares_page, is_entry, has_entry, holds_headers, headers_at, header_end, segment_from};
 
 use crate::fault::{ElfError, ElfFault};
@@ -36,7 +36,8 @@ fn find_shared<'a>(before: &'a [Placed], s: &Placed) -> Option<&'a Placed>
 
 // Whether no two segments share a page.
 fn check_apart(placed: &[Placed]) -> Result<(), ElfError>
-    ensures { Gives (λ (_ : _). placed.now) result (apart [] placed.now) }
+    ensures value { Gives (λ (_ : _). placed.now) result (apart [] placed.now) }
+    ensures apart { OnOk result (AreApart placed.now) }
 {
     let mut done = 0;
     while done < placed.len() {
@@ -122,7 +123,8 @@ fn segment_from(alloc: Global, bytes: &[u8], s: &Placed) -> Result<Segment, NoMe
 
 fn segments_from(alloc: Global, bytes: &[u8], placed: &[Placed]) -> Result<Segments, NoMemory>
     requires { All (IsInside (length bytes.now)) placed.now }
-    ensures { IfOk result (λ segments. segments ≡ map (segment_from bytes.now) placed.now) }
+    ensures value { IfOk result (λ segments. segments ≡ map (segment_from bytes.now) placed.now) }
+    ensures kept { IfOk result (All IsSegment) }
 {
     let mut segments = Items::new(alloc);
     for s in placed {
@@ -135,6 +137,8 @@ fn segments_from(alloc: Global, bytes: &[u8], placed: &[Placed]) -> Result<Segme
 #[tactic(auto, unfolding(crate::specs::Profile::image_of))]
 pub fn load(alloc: Global, bytes: &[u8]) -> Result<Image, ElfError>
     ensures value { LoadGives result (image_of bytes.now) }
+    ensures image { IfOk result IsImage }
+    ensures loaded { IfOk result IsLoaded }
 {
     let header = read_header(bytes)?;
     let placed = read_segments(alloc, bytes, &header)?;
