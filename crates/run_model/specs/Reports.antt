@@ -27,32 +27,32 @@ use Rattle.std.specs.Prelude.{ℕ, ◌+◌, ◌-◌, ◌/◌, ◌%◌, Bool, tru
 
 -- ---- its parts
 
-abbrev ending_word : Ending → List ℕ
+abbrev pub ending_word : Ending → List ℕ
 ending_word Done = codes "done"
 ending_word Limit = codes "limit"
 ending_word Stalled = codes "stalled"
 ending_word Unfinished = codes "unfinished"
 
-abbrev end_words : End → List Word
+abbrev pub end_words : End → List Word
 end_words (Exit code) = Text (codes "exit") ∷ Number code ∷ []
 end_words (Killed signal) = Text (codes "killed") ∷ Number signal ∷ []
 
-abbrev life_words : Life → List Word
+abbrev pub life_words : Life → List Word
 life_words Living = Text (codes "running") ∷ []
 life_words (Dying e) = end_words e
 life_words (Ended e) = end_words e
 
-abbrev guest_line : ℕ × Process → Part
+abbrev pub guest_line : ℕ × Process → Part
 guest_line e = Line (Text (codes "guest") ∷ Number e.0 ∷ life_words e.1.life)
 
-abbrev output_lines : ℕ × Console → List Part
+abbrev pub output_lines : ℕ × Console → List Part
 output_lines e = Line (Text (codes "output") ∷ Number e.0 ∷ Number (length e.1.output) ∷ []) ∷ Block e.1.output ∷ []
 
 -- bytes outside 0x21 to 0x7e and the backslash are written as \x and two hexadecimal digits
 abbrev hex_digit : ℕ → ℕ
 hex_digit n = cond (nat_lt n 10) (48 + n) (87 + n)
 
-abbrev escaped : ℕ → List ℕ
+abbrev pub escaped : ℕ → List ℕ
 escaped b = cond (nat_le 0x21 b && nat_le b 0x7e && not (b == 92)) (b ∷ []) (92 ∷ 120 ∷ hex_digit (b / 16) ∷ hex_digit (b % 16) ∷ [])
 
 -- a path's text with its node; the root and what was unlinked have none
@@ -60,21 +60,21 @@ pub record PathEntry : Type 0 where
   pub text : List ℕ
   pub node : Inode
 
-abbrev path_entry : Files → ℕ × Inode → Option PathEntry
+abbrev pub path_entry : Files → ℕ × Inode → Option PathEntry
 path_entry files e = elim e.1.name [ None ↦ None | Some name ↦ Some (record { text = path_of files e.0; node = e.1 }) ]
 
 abbrev entry_before : PathEntry → PathEntry → Bool
 entry_before a b = bytes_before a.text b.text
 
-abbrev path_lines : PathEntry → List Part
+abbrev pub path_lines : PathEntry → List Part
 path_lines e = cond e.node.directory
     (Line (Text (codes "dir") ∷ Text (flat_map escaped e.text) ∷ []) ∷ [])
     (Line (Text (codes "file") ∷ Text (flat_map escaped e.text) ∷ Number (length e.node.bytes) ∷ []) ∷ Block e.node.bytes ∷ [])
 
-abbrev paths_in_order : Files → List PathEntry
+abbrev pub paths_in_order : Files → List PathEntry
 paths_in_order files = sorted_by entry_before (filter_map (path_entry files) (entries files.nodes))
 
-abbrev unsent_line : ScriptLine → Part
+abbrev pub unsent_line : ScriptLine → Part
 unsent_line l = Line (Text (codes "unsent") ∷ Number l.line ∷ [])
 
 abbrev pub count_line : List ℕ → ℕ → Part
@@ -82,11 +82,11 @@ count_line name n = Line (Text (codes "count") ∷ Text name ∷ Number n ∷ []
 
 -- ---- counts of a journal
 
-abbrev is_miss : Event → Bool
+abbrev pub is_miss : Event → Bool
 is_miss (Miss p w) = true
 is_miss _ = false
 
-abbrev is_begin_vm : Event → Bool
+abbrev pub is_begin_vm : Event → Bool
 is_begin_vm (BeginVm t) = true
 is_begin_vm _ = false
 
