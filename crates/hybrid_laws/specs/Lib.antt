@@ -3,3 +3,14 @@ pub mod Requests
 pub mod Tests
 pub mod Placing
 pub mod Showing
+pub mod InRings
+pub mod OneRequest
+pub mod Assign
+pub mod FetchAnswer
+pub mod FetchWhole
+pub mod FetchShown
+pub mod FetchRequest
+pub mod FetchRequestShown
+pub mod CallShown
+pub mod HeldStep
+pub mod Copy
