@@ -1,0 +1,16 @@
+pub mod Reading
+pub mod Requests
+pub mod Tests
+pub mod Placing
+pub mod Showing
+pub mod InRings
+pub mod OneRequest
+pub mod Assign
+pub mod FetchAnswer
+pub mod FetchWhole
+pub mod FetchShown
+pub mod FetchRequest
+pub mod FetchRequestShown
+pub mod CallShown
+pub mod HeldStep
+pub mod Copy
