@@ -14,3 +14,7 @@ pub mod FetchRequestShown
 pub mod CallShown
 pub mod HeldStep
 pub mod Copy
+pub mod NodeKeeps
+pub mod NodePrimitives
+pub mod LocalKeeps
+pub mod EventKeeps
