@@ -257,8 +257,8 @@ stream_end p r = ends (cond (p.moved == 0) r.answer (pos p.moved)) p r.files
 abbrev file_step_in : Progress → Files → ℕ → Phase → After
 file_step_in p files process Act = acted p (file_step files process (act_of p.number p.arguments) p.buffer)
 file_step_in p files process (Stream rs) = stream_end p (file_step files process (stream_operation p) [])
-file_step_in p files process (Gather rs) = goes_on p files
-file_step_in p files process (Scatter rs) = goes_on p files
+file_step_in p files process (Gather rs) = settle p files
+file_step_in p files process (Scatter rs) = settle p files
 
 -- the next step is a file step and is made
 abbrev pub take_file_step : Progress → Files → ℕ → After
