@@ -18,6 +18,7 @@ sys.path.insert(0, str(HERE))
 from rows import ROWS, WRONG  # noqa: E402
 
 TOP = HERE.parent.parent
+LAWS = ("MapLaws", "EachLaws", "Slots")
 CRATES = "mck_word mck_flags job_model isa_model file_model kernel_model key_rows ikc_ring page_pins clear_rounds request_book hybrid_model run_model".split()
 HEAD = """use Rattle.hybrid_model.specs.Boot.{boot, shortage}
 use Rattle.hybrid_model.specs.Events.{may, after}
@@ -76,10 +77,10 @@ def make_workspace(top):
     shutil.copy(TOP / "HANDLES", top / "HANDLES")
     words = top / "crates" / "mck_word" / "specs"
     shutil.copy(HERE / "Maps.txt", words / "Maps.antt")
-    for name in ("MapLaws", "Slots"):
+    for name in LAWS:
         (words / f"{name}.antt").unlink()
     library = words / "Lib.antt"
-    library.write_text("".join(l for l in library.read_text().splitlines(True) if "MapLaws" not in l and "Slots" not in l))
+    library.write_text("".join(l for l in library.read_text().splitlines(True) if not any(name in l for name in LAWS)))
     for file in (top / "crates").glob("*/specs/*.antt"):
         file.write_text(file.read_text().replace("unfoldable pub", "abbrev pub"))
     rows = top / "crates" / "worked_rows"
