@@ -176,7 +176,7 @@ g.address("t1", "handler"); g.address("t2", act); g.store("t1", 0, "t2"); g.call
 g.call(135, 0, mask, 0, 8); g.expect(0); g.call(129, 1, 10); g.expect(0); g.call(136, out, 8); g.expect(0); g.address("t2", out); g.load("a0", 0, "t2"); g.expect(0x200)
 g.call(135, 1, mask, 0, 8); g.expect(0); g.address("t2", got); g.load("a0", 0, "t2"); g.expect(10); g.exit(); g.straight = g.instructions()
 g.label("handler"); first = g.instructions(); g.address("t2", got); g.store("a0", 0, "t2"); g.call(139); handler = g.instructions() - first; g.end()
-walked("BlockedThenHandled", "blocked, then handled", [g], job(18), report("done", ENDED, [(1, b"")], instructions=g.straight + handler, free=18), chunk=30, chunks=3)
+walked("BlockedThenHandled", "blocked, then handled", [g], job(18), report("done", ENDED, [(1, b"")], instructions=g.straight + handler, free=18), chunk=12, chunks=6)
 
 walked("UnsentLine", "unsent line", [SEVEN], job(18, signals=signals((3, 1, 10, 5))), report("done", [(1, "exit 7")], [(1, b"")], unsent=[3], instructions=3, free=18))
 
@@ -192,8 +192,8 @@ def parked_read(flags):
     return g.end()
 
 
-ended("ParkedRead", "parked read and a signal, without restart", [parked_read(0)], job(19, 2), "Ended (Exit 0)", chunk=25, chunks=3)
-ended("ParkedReadRestarted", "parked read and a signal, with restart", [parked_read(0x10000000)], job(19, 2), "Ended (Exit 0)", chunk=30, chunks=3)
+ended("ParkedRead", "parked read and a signal, without restart", [parked_read(0)], job(19, 2), "Ended (Exit 0)", chunk=14, chunks=5)
+ended("ParkedReadRestarted", "parked read and a signal, with restart", [parked_read(0x10000000)], job(19, 2), "Ended (Exit 0)", chunk=15, chunks=6)
 
 g = Guest(); fds = g.blob(bytes(8)); buffer = g.blob(bytes(8)); g.call(59, fds, 0); g.expect(0); mmap(g, 4096); g.call(220, CLONE, STACK, 0, 0, 0); g.branch("a0", "x0", "first")
 g.addi("t1", "x0", 100); g.label("spin"); g.addi("t1", "t1", -1); g.branch("t1", "x0", "spin"); g.call(57, 4); g.call(93, 0)
@@ -276,12 +276,9 @@ g = Guest(); g.call(220, 17, 0, 0, 0, 0); g.branch("a0", "x0", "parent"); g.exit
 ended("ForkWithoutFrames", "fork and wait, with too few frames", [g], job(35), "Ended (Exit 0)")
 
 g = Guest(); sums = g.blob(bytes(8)); mmap(g, 4096); g.call(220, 17, 0, 0, 0, 0); g.branch("a0", "x0", "parent"); g.addi("t1", "x0", 60); g.label("spin"); g.addi("t1", "t1", -1); g.branch("t1", "x0", "spin"); g.exit(5)
-g.label("parent"); g.call(220, CLONE, STACK, 0, 0, 0); g.call(260, -1, 0, 0, 0); g.address("t2", sums); g.set("t1", 1); g.branch("a0", "x0", "add"); g.label("add")
-g.emit("word", 0x00A3B52F); g.call(93, 0); g.end()
-row = Row("two waiters", [g], job(38, 2))
-row.walk()
-row.fact("sum_is", f"number_of (read_bytes (memory_here (here {row.state('take 64 journal')} 1)) {hex(0x10078 + 4 * g.instructions())} 8)", "7")
-ROWS["TwoWaiters"] = row
+g.label("parent"); g.call(220, CLONE, STACK, 0, 0, 0); g.call(260, -1, 0, 0, 0); g.address("t2", sums); g.emit("word", 0x00A3B52F)
+g.load("t1", 0, "t2"); g.set("t0", 17 - 10); g.branch("t1", "t0", "first"); g.exit(7); g.label("first"); g.call(93, 0); g.end()
+ended("TwoWaiters", "two waiters", [g], job(38, 2), "Ended (Exit 7)", chunk=15, chunks=3)
 
 g = Guest(); total = g.blob(bytes(8)); mmap(g, 4096); g.call(220, CLONE, STACK, 0, 0, 0); g.address("a1", total); g.set("a2", 1); g.set("t1", 5); g.label("loop")
 g.emit("word", 0x00C5A52F); g.addi("t1", "t1", -1); g.branch("t1", "x0", "loop"); g.set("t1", 60); g.label("spin"); g.addi("t1", "t1", -1); g.branch("t1", "x0", "spin")
