@@ -49,7 +49,7 @@ abbrev pub output_lines : ℕ × Console → List Part
 output_lines e = Line (Text (codes "output") ∷ Number e.0 ∷ Number (length e.1.output) ∷ []) ∷ Block e.1.output ∷ []
 
 -- bytes outside 0x21 to 0x7e and the backslash are written as \x and two hexadecimal digits
-abbrev hex_digit : ℕ → ℕ
+abbrev pub hex_digit : ℕ → ℕ
 hex_digit n = cond (nat_lt n 10) (48 + n) (87 + n)
 
 abbrev pub escaped : ℕ → List ℕ
