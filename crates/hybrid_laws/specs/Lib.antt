@@ -14,3 +14,17 @@ pub mod FetchRequestShown
 pub mod CallShown
 pub mod HeldStep
 pub mod Copy
+pub mod Serving
+pub mod Simulated
+pub mod Silent
+pub mod Speaking
+pub mod StatusStep
+pub mod Act
+pub mod CopyShown
+pub mod Back
+pub mod Ready
+pub mod Miss
+pub mod Pin
+pub mod Unpin
+pub mod Leaving
+pub mod Finish
