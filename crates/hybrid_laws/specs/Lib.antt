@@ -28,3 +28,7 @@ pub mod Pin
 pub mod Unpin
 pub mod Leaving
 pub mod Finish
+pub mod Taking
+pub mod FetchClear
+pub mod FetchInterrupt
+pub mod Fetch

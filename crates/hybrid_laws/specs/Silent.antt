@@ -2,7 +2,7 @@
 use Rattle.hybrid_laws.specs.Showing.{shown-same}
 use Rattle.hybrid_model.specs.Coherence.{replies_to}
 use Rattle.hybrid_model.specs.Pairs.{Here}
-use Rattle.hybrid_model.specs.Shown.{has_empty, reply_code, serves_it, shown_born, shown_here, status_by, status_in, status_of}
+use Rattle.hybrid_model.specs.Shown.{has_empty, reply_code, serves_it, shown_born, shown_here, status_by, status_in, status_of, shown_own}
 use Rattle.hybrid_model.specs.Sides.{Service, Side, Turn, call_in, no_service, state_in}
 use Rattle.hybrid_model.specs.Tallies.{Reads, tally, with_at}
 use Rattle.ikc_ring.specs.declared.Call.{Call}
@@ -69,3 +69,7 @@ module _ (frames : Map (List ℕ)) (h : Here) (side' : Side) (turns : Map Turn) 
   shown-silent f =
     let k = shown-same h.frames h.side side' tables calls (λ t c e. f c.request) in
     λ i. record { own = k i; node = h.node; free = length h.free; born = shown_born h.frames h.born }
+
+-- a side that shows the same in its process
+pub shown-as : (h : Here) (side' : Side) → shown_own h.frames side' ≡ shown_own h.frames h.side → shown_here (record h { side = side' }) ≡ shown_here h
+shown-as h side' e = λ i. record { own = e i; node = h.node; free = length h.free; born = shown_born h.frames h.born }
