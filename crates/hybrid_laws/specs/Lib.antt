@@ -32,3 +32,6 @@ pub mod Taking
 pub mod FetchClear
 pub mod FetchInterrupt
 pub mod Fetch
+pub mod AckClear
+pub mod Park
+pub mod Unpark
