@@ -4,6 +4,7 @@ use Rattle.hybrid_laws.specs.OneRequest.{goes_on}
 use Rattle.hybrid_laws.specs.Reading.{reads-put, reads-stated}
 use Rattle.hybrid_laws.specs.Requests.{IsForNext-keeps, PinServes-keeps, answers-keep, faults-keep, noted-keep}
 use Rattle.hybrid_laws.specs.Showing.{has_empty-same, shown-same}
+use Rattle.hybrid_laws.specs.Simulated.{Simulated, simulated-none}
 use Rattle.hybrid_laws.specs.Tests.{not-empty, both, none-is}
 use Rattle.hybrid_model.specs.Coherence.{Served, IsForNext, state_at, service_at, is_waiting, OfProcess}
 use Rattle.hybrid_model.specs.Events.{after_here, may_here}
@@ -141,3 +142,6 @@ module _ (p : ℕ) (h : Here) (ring_number : ℕ → ℕ) (k : OfProcess p h.sid
     let m = may-assign h q w e in
     let s = image_assign h w m.idle k.served.waits m.waits in
     λ i. record { own = s i; node = h.node; free = length h.free; born = shown_born h.frames h.born }
+
+  pub simulates_assign : Simulated (Events.Assign q w) p h
+  simulates_assign = simulated-none (Events.Assign q w) p h refl shows_assign

@@ -1,13 +1,16 @@
 -- A worker steps its request, which was Held and goes on or ends: the book, the services and the workers agree after it.
-use Rattle.hybrid_laws.specs.Reading.{Each-where, EachRing-where}
+use Rattle.hybrid_laws.specs.OneRequest.{goes_on}
+use Rattle.hybrid_laws.specs.Reading.{Each-where, EachRing-where, reads-put}
 use Rattle.hybrid_laws.specs.Requests.{IsForNext-keeps, PinServes-keeps}
-use Rattle.hybrid_model.specs.Coherence.{AnswerIsFor, FaultIsFor, IsForNext, PinServes, Served, answers_to, faults_of, holder, is_faulted, is_fetched, is_live, is_posted, is_waiting, service_at, state_at}
+use Rattle.hybrid_model.specs.Coherence.{AnswerIsFor, FaultIsFor, IsForNext, PinServes, Served, answers_to, faults_of, holder, is_faulted, is_fetched, is_live, is_posted, is_waiting, service_at, state_at, OfProcess}
 use Rattle.hybrid_model.specs.Linux.{state_if}
-use Rattle.hybrid_model.specs.Sides.{Noted, Service}
+use Rattle.hybrid_model.specs.Sides.{Noted, Service, Side, service_of, with_service, with_state}
 use Rattle.hybrid_model.specs.Tallies.{Reads, counted, sum_rings, tally, with_at}
 use Rattle.ikc_ring.specs.declared.Call.{Call}
 use Rattle.ikc_ring.specs.declared.Msg.{Msg}
 use Rattle.ikc_ring.specs.declared.Msg.TheVariants.{Ack, Clear, Fault, Request, Answer, Interrupt, Reply}
+use Rattle.kernel_model.specs.Nodes.{Node}
+use Rattle.mck_word.specs.Maps.{at}
 use Rattle.mck_word.specs.declared.Access.{Access}
 use Rattle.page_pins.specs.declared.Pin.{Pin}
 use Rattle.request_book.specs.declared.ReqState.{ReqState}
@@ -97,3 +100,15 @@ pub state-facts : (o : Option ℤ) (w : ℕ) → (is_posted (state_if o) ≡ 0) 
 state-facts None w = (refl, refl, refl, refl, refl, refl)
 state-facts (Some a) w = (refl, refl, refl, refl, refl, refl)
 
+
+-- ---- a worker without a pin steps its request
+module _ (p : ℕ) (side : Side) (node : Node) (worker_count : ℕ) (ring_of : ℕ → ℕ) (h : OfProcess p side node worker_count ring_of) (w q : ℕ) (call : Call) (serving : at side.linux.workers w ≡ Some q) (is : at side.book.rows q ≡ Some (Held, call)) (no_pin : at side.linux.pins w ≡ None) (now : ReqState) (k : Service)
+  (not_posted : is_posted now ≡ 0) (not_waiting : is_waiting now ≡ 0) (not_faulted : is_faulted now ≡ 0) (fetched : is_fetched now ≡ true) (held : holder now w ≡ Some w) (live : is_live now ≡ true) (same_worker : k.worker ≡ (service_of side.linux.services q).worker) (same_mark : k.interrupted ≡ (service_of side.linux.services q).interrupted) where
+  pub keeps_step : OfProcess p (record side { linux = with_service side.linux q k; book = with_state side.book q now }) node worker_count ring_of
+  keeps_step =
+    let d = reads-put side.linux.services q k in
+    goes_on p side node worker_count ring_of h q Held now call is refl live refl not_posted (with_service side.linux q k) side.book.waiting (λ y. rw d (same-marks (at side.linux.services) q k y same_mark)) h.covered h.rounded
+      (rw d (served_step worker_count (at side.linux.workers) (at side.book.rows) (at side.linux.services) (at side.linux.pins) side.book.waiting (at side.lwk.noted) side.to_linux side.to_lwk h.served w q call serving is (at side.linux.pins) (λ v n. refl) now k not_posted not_waiting not_faulted fetched held same_worker (λ y e. absurd (grind (arith, e, no_pin)))))
+    where
+      same-marks : (services : Reads Service) (q : ℕ) (k : Service) (y : ℕ) → k.interrupted ≡ (service_at services q).interrupted → (service_at (with_at services q (Some k)) y).interrupted ≡ (service_at services y).interrupted
+      same-marks services q k y e = grind (arith, nat_tests, e)

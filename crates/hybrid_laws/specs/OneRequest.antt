@@ -1,4 +1,5 @@
 -- One fetched request gets another state: the process is whole again once its table, its round and its workers are.
+use Rattle.file_model.specs.Files.{Files}
 use Rattle.hybrid_laws.specs.InRings.{InRings, in_rings, rings-services, rings-state}
 use Rattle.hybrid_laws.specs.Reading.{reads-stated}
 use Rattle.hybrid_laws.specs.Requests.{Answered-state}
@@ -7,7 +8,7 @@ use Rattle.hybrid_model.specs.Sides.{Book, LinuxSide, Side, with_state}
 use Rattle.hybrid_model.specs.Tallies.{Reads, with_at}
 use Rattle.ikc_ring.specs.declared.Call.{Call}
 use Rattle.ikc_ring.specs.declared.Msg.{Msg}
-use Rattle.kernel_model.specs.Nodes.{Node}
+use Rattle.kernel_model.specs.Nodes.{Node, set_files}
 use Rattle.mck_word.specs.Maps.{at}
 use Rattle.request_book.specs.declared.ReqState.{ReqState}
 use Rattle.std.specs.Prelude.{List, Some, true, ℕ, ◌≡◌}
@@ -48,3 +49,7 @@ module _ (p : ℕ) (side : Side) (node : Node) (worker_count : ℕ) (ring_of : �
     → OfProcess p (record side { linux = linux; book = book_now }) node worker_count ring_of
   goes_on f c d s = with_messages side.to_linux side.to_lwk c d s h.answered
     (rings-services (at side.book.rows) side.book.next (at node.threads) ring_of (at side.lwk.callers) (at side.linux.services) side.to_linux side.to_lwk (in_rings h) (at linux.services) f)
+
+-- nothing of a process speaks of the files
+pub files-any : (p : ℕ) (side : Side) (node : Node) (worker_count : ℕ) (ring_of : ℕ → ℕ) (files : Files) → OfProcess p side node worker_count ring_of → OfProcess p side (set_files files node) worker_count ring_of
+files-any p side node worker_count ring_of files h = record { covered = h.covered; rounded = h.rounded; owned = h.owned; served = h.served; answered = h.answered; calls = h.calls; asked = h.asked; interrupts = h.interrupts; directions = h.directions; messages = h.messages; marked = h.marked }

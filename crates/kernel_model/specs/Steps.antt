@@ -40,7 +40,7 @@ answer_in (Active p) = None
 answer_in (Blocked p) = None
 answer_in (Over answer) = Some answer
 
-abbrev progress_in : CallStatus → Progress
+abbrev pub progress_in : CallStatus → Progress
 progress_in (Active p) = p
 progress_in (Blocked p) = p
 progress_in (Over answer) = no_progress
@@ -174,11 +174,11 @@ one_piece p t h =
 unfoldable pub call_ended : ℕ → ℤ → OneHere → OneHere
 call_ended t answer h = set_status t (call_at h t).marked (Over answer) (with_node (set_files (given_back (progress_at h t) h.node.files) h.node) h)
 
-abbrev interrupted_as : Bool → ℕ → OneHere → OneHere
+abbrev pub interrupted_as : Bool → ℕ → OneHere → OneHere
 interrupted_as true t h = call_ended t (interrupted_answer (progress_at h t)) h
 interrupted_as false t h = with_node (called_back t h.node) h
 
-abbrev return_of : ℕ → Option ℤ → OneHere → OneHere
+abbrev pub return_of : ℕ → Option ℤ → OneHere → OneHere
 return_of t None h = h
 return_of t (Some answer) h = record (with_node (returns t answer h.node) h) { own = record h.own { calls = cut h.own.calls t } }
 
