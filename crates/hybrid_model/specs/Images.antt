@@ -40,7 +40,7 @@ abbrev pub thread_of_request : Side → ℕ → ℕ
 thread_of_request s q = (call_of s.book q).tid.0
 
 abbrev pub image_here : Event → ℕ → Here → List Step
-image_here (Run core t n) p h = replicate (executed_in_run p t.0 n h) (Steps.Instr t)
+image_here (Run core t n) p h = replicate (executed_in_run t.0 n h) (Steps.Instr t)
 image_here (Trap t) p h = one_step (Steps.Trap t)
 image_here (Deliver t) p h = one_step (Steps.Deliver t)
 image_here (Intake q) p h = image_of_intake h.side.to_lwk h.side
