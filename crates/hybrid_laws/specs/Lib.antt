@@ -28,3 +28,7 @@ pub mod Pin
 pub mod Unpin
 pub mod Leaving
 pub mod Finish
+pub mod NodeKeeps
+pub mod NodePrimitives
+pub mod LocalKeeps
+pub mod EventKeeps
