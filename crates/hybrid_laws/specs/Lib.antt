@@ -32,3 +32,9 @@ pub mod NodeKeeps
 pub mod NodePrimitives
 pub mod LocalKeeps
 pub mod EventKeeps
+pub mod Written
+pub mod Sums
+pub mod Shapes
+pub mod Simulated
+pub mod Threads
+pub mod RunEvent
