@@ -38,3 +38,7 @@ pub mod Shapes
 pub mod Simulated
 pub mod Threads
 pub mod RunEvent
+pub mod ViewShown
+pub mod DeliverEvent
+pub mod WaitEvent
+pub mod ScriptEvent
