@@ -35,7 +35,6 @@ pub mod EventKeeps
 pub mod Written
 pub mod Sums
 pub mod Shapes
-pub mod Simulated
 pub mod Threads
 pub mod RunEvent
 pub mod ViewShown
