@@ -41,3 +41,4 @@ pub mod ViewShown
 pub mod DeliverEvent
 pub mod WaitEvent
 pub mod ScriptEvent
+pub mod TrapKeeps
