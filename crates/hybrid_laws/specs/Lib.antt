@@ -42,3 +42,6 @@ pub mod DeliverEvent
 pub mod WaitEvent
 pub mod ScriptEvent
 pub mod TrapKeeps
+pub mod BeginCall
+pub mod PostRequest
+pub mod TrapCall
