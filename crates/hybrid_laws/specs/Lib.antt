@@ -45,3 +45,5 @@ pub mod TrapKeeps
 pub mod BeginCall
 pub mod PostRequest
 pub mod TrapCall
+pub mod TrapSays
+pub mod TrapBegins
