@@ -207,7 +207,7 @@ module _ (p : ℕ) (free : ℕ → Bool) where
       (either-view _ _ _ (answers-keeps (pos 0) v) (does-free p free v.node t (InWait pid status) e refl))))
 
     -- ---- clone: the new thread's number is new
-    clones-keeps : (flags stack parent_tid tls child_tid : ℕ) (v : View) → at v.node.threads v.node.next_number ≡ None → Keeps p free v.node (clones t flags stack parent_tid tls child_tid v).node
+    pub clones-keeps : (flags stack parent_tid tls child_tid : ℕ) (v : View) → at v.node.threads v.node.next_number ≡ None → Keeps p free v.node (clones t flags stack parent_tid tls child_tid v).node
     clones-keeps flags stack parent_tid tls child_tid v none = subst (λ (m : Node). Keeps p free v.node (answered t (pos n) m)) (sym (outer (has_bit 24 flags) (may_access told.memory Write child_tid (length (little_endian 4 n))))) done
       where
         n : ℕ

@@ -67,7 +67,7 @@ piece_has_right h p = allows_in (needed_access p) (at h.own.memory (next_piece p
 abbrev pub may_change : Node → ℕ → Bool
 may_change node t = has_thread node t && is_some (change_in (thread_of node t).does)
 
-abbrev some_called : Node → ℕ → Bool
+abbrev pub some_called : Node → ℕ → Bool
 some_called node p = some_row (λ t (x : Thread). x.process == p && is_called x.does) node.threads
 
 abbrev pub may_end : Node → ℕ → Bool
@@ -132,7 +132,7 @@ vm_finish p t h = vm_finish_of p t (change_in (thread_of h.node t).does) h
 abbrev pub set_status : ℕ → Bool → CallStatus → OneHere → OneHere
 set_status t marked status h = record h { own = record h.own { calls = put h.own.calls t (record { marked = marked; status = status }) } }
 
-abbrev one_trapped : ℕ → ℕ → Trapped → OneHere → OneHere
+abbrev pub one_trapped : ℕ → ℕ → Trapped → OneHere → OneHere
 one_trapped p t (Done v) h = with_view v h
 one_trapped p t (Forks v child stores) h =
   let m = stored_all v.stores h.own.memory in
