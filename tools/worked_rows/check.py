@@ -19,7 +19,8 @@ from rows import ROWS, WRONG  # noqa: E402
 
 TOP = HERE.parent.parent
 LAWS = ("MapLaws", "EachLaws", "Slots")
-CRATES = "mck_word mck_flags job_model isa_model file_model kernel_model key_rows ikc_ring page_pins clear_rounds request_book hybrid_model run_model".split()
+CONTAINERS = "ikc_ring page_pins clear_rounds request_book".split()
+CRATES = ["mck_word", "mck_flags", "job_model", "isa_model", "file_model", "kernel_model", *CONTAINERS, "hybrid_model", "run_model"]
 HEAD = """use Rattle.hybrid_model.specs.Boot.{boot, shortage}
 use Rattle.hybrid_model.specs.Events.{may, after}
 use Rattle.hybrid_model.specs.Journals.{may_all, state, ending}
@@ -63,6 +64,18 @@ pub fn rows() -> u32
 """
 
 
+def plain_types(source):
+    """Of a container's root file the plain types that the definitions speak of."""
+    types = re.findall(r"(#\[derive\([^\]]*\bCopy\b[^\]]*\)\]\npub (?:enum|struct) \w+ \{\n.*?\n\}\n)", source, re.S)
+    used = set(re.findall(r"\w+", "".join(types)))
+    uses = []
+    for crate, names in re.findall(r"^use (mck_\w+)::\{?([^;{}]*)\}?;$", source, re.M):
+        wanted = [name for name in map(str.strip, names.split(",")) if name in used]
+        if wanted:
+            uses.append(f"use {crate}::{{{', '.join(wanted)}}};\n")
+    return "//! Plain types.\n#![tactic(auto)]\n\n" + "".join(uses) + "\n" + "\n".join(types)
+
+
 def make_workspace(top):
     """A copy of the definitions in which maps are rising lists and every definition unfolds."""
     for crate in CRATES:
@@ -70,9 +83,17 @@ def make_workspace(top):
             source = TOP / "crates" / crate / part
             if source.is_dir():
                 shutil.copytree(source, top / "crates" / crate / part)
+    for crate in CONTAINERS:
+        root = top / "crates" / crate / "src" / "lib.rt"
+        root.write_text(plain_types(root.read_text()))
+        for part in ("specs", "proofs"):
+            shutil.rmtree(top / "crates" / crate / part, ignore_errors=True)
+        (top / "crates" / crate / "specs").mkdir()
+        (top / "crates" / crate / "specs" / "Lib.antt").write_text("")
     wanted = set(CRATES)
-    lines = [l for l in (TOP / "crates.txt").read_text().splitlines() if l.split(":")[0] in wanted]
-    lines.append("worked_rows: " + " ".join(c for c in CRATES if c != "key_rows"))
+    lines = [l for l in (TOP / "crates.txt").read_text().splitlines() if l.split(":")[0] in wanted and l.split(":")[0] not in CONTAINERS]
+    lines += [f"{c}: mck_word mck_flags" for c in CONTAINERS]
+    lines.append("worked_rows: " + " ".join(CRATES))
     (top / "crates.txt").write_text("\n".join(lines) + "\n")
     shutil.copy(TOP / "HANDLES", top / "HANDLES")
     words = top / "crates" / "mck_word" / "specs"

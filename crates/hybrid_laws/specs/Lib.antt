@@ -39,10 +39,6 @@ pub mod Fetch
 pub mod AckClear
 pub mod Park
 pub mod Unpark
-pub mod NodeKeeps
-pub mod NodePrimitives
-pub mod LocalKeeps
-pub mod EventKeeps
 pub mod Written
 pub mod Sums
 pub mod Shapes
