@@ -1,4 +1,4 @@
-use Rattle.std.proofs.Common.{◌≡◌, ◌∙◌, List, ℕ, not, eqb, rules}
+use Rattle.std.proofs.Common.{◌∙◌, not, eqb, rules}
 use Rattle.std.proofs.lemmas.Fn.{filter_same}
 use Rattle.request_book.proofs.Moves as moves
 use Rattle.request_book.proofs.take_out.Goals as goal
