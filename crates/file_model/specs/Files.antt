@@ -1,51 +1,34 @@
--- The files of the node: lists of nodes, pipes, open descriptions, descriptors and consoles.
-use Rattle.std.specs.Prelude.{ℕ, ◌+◌, ◌-◌, Bool, false, ◌&&◌, ◌||◌, ◌==◌, List, [], ◌∷◌, ◌++◌, map, filter, length, find, is_some, Option, Some, None, sum_by, nat_lt}
-use Rattle.std.specs.List.{list_any}
-use Rattle.mck_word.specs.Lists.{find_or, update, without, lowest_not_in}
+-- The files of the node: nodes of the tree, pipes, open descriptions, descriptors and consoles, each by its number. The lists and limits are this project's own; the words are those of man-pages (open, pipe).
+use Rattle.file_model.specs.declared.descriptions.Description.{Description}
+use Rattle.file_model.specs.declared.descriptions.Target.{Target}
+use Rattle.file_model.specs.declared.descriptions.Target.TheVariants.{OfNode, ReadEnd, WriteEnd, OfConsole}
+use Rattle.mck_word.specs.Lists.{lowest_not_in}
+use Rattle.mck_word.specs.Maps.{Map, at, put, cut, change, collect, keys, no_rows, some_row, total}
+use Rattle.std.specs.Prelude.{ℕ, ◌+◌, ◌-◌, Bool, true, false, cond, ◌||◌, ◌==◌, List, [], length, is_some, nat_lt, unwrap_or, Option, Some, None}
 
--- A file or directory of the tree. Its path is the list of names from the root on, or none once it was unlinked and lives on because it is open.
+abbrev pub Name : Type 0
+Name = List ℕ
+
+-- A file or directory. It has a name in the directory `parent`, or none once it was unlinked; it lives on while it is open. The root is its own parent and has no name.
 pub record Inode : Type 0 where
-  pub number : ℕ
-  pub path : Option (List (List ℕ))
+  pub parent : ℕ
+  pub name : Option Name
   pub directory : Bool
-  pub bytes : List ℕ
-
-pub record Pipe : Type 0 where
-  pub number : ℕ
   pub bytes : List ℕ
 
 -- A guest's console: what is left of its input, and its output so far.
 pub record Console : Type 0 where
-  pub guest : ℕ
   pub input : List ℕ
   pub output : List ℕ
 
--- What a description is open on.
-pub data Target : Type 0 where
-  OfNode ReadEnd WriteEnd OfConsole : ℕ → Target
-
--- An open description: shared by the descriptors that name it and by the calls that hold it. The offset of a directory is its place.
-pub record Description : Type 0 where
-  pub number : ℕ
-  pub target : Target
-  pub readable : Bool
-  pub writable : Bool
-  pub append : Bool
-  pub offset : ℕ
-  pub calls : ℕ
-
-pub record Descriptor : Type 0 where
-  pub process : ℕ
-  pub number : ℕ
-  pub description : ℕ
-
+-- `pipes` are the bytes of each pipe, `descriptors` the description of each descriptor of each process, `consoles` those of the guests.
 pub record Files : Type 0 where
-  pub nodes : List Inode
+  pub nodes : Map Inode
   pub next_node : ℕ
-  pub pipes : List Pipe
-  pub descriptions : List Description
-  pub descriptors : List Descriptor
-  pub consoles : List Console
+  pub pipes : Map (List ℕ)
+  pub descriptions : Map Description
+  pub descriptors : Map (Map ℕ)
+  pub consoles : Map Console
 
 -- ---- limits
 
@@ -62,38 +45,48 @@ most_console_bytes = 1_048_576
 abbrev pub most_pipe_bytes : ℕ
 most_pipe_bytes = 65_536
 
+-- ---- the beginning: the root alone
+
+abbrev pub root : ℕ
+root = 1
+
+abbrev pub empty_directory : ℕ → Option Name → Inode
+empty_directory parent name = record { parent = parent; name = name; directory = true; bytes = [] }
+
+abbrev pub root_only : Files
+root_only = record {
+  nodes = put no_rows root (empty_directory root None); next_node = 2; pipes = no_rows; descriptions = no_rows; descriptors = no_rows; consoles = no_rows }
+
 -- ---- looking up
 
 abbrev pub no_node : Inode
-no_node = record { number = 0; path = None; directory = false; bytes = [] }
+no_node = record { parent = 0; name = None; directory = false; bytes = [] }
 
 abbrev pub node_of : Files → ℕ → Inode
-node_of files n = find_or (λ x. x.number == n) files.nodes no_node
+node_of files n = unwrap_or (at files.nodes n) no_node
 
-abbrev pub pipe_of : Files → ℕ → Pipe
-pipe_of files n = find_or (λ x. x.number == n) files.pipes (record { number = n; bytes = [] })
+abbrev pub pipe_of : Files → ℕ → List ℕ
+pipe_of files n = unwrap_or (at files.pipes n) []
 
 abbrev pub console_of : Files → ℕ → Console
-console_of files guest = find_or (λ x. x.guest == guest) files.consoles (record { guest = guest; input = []; output = [] })
+console_of files guest = unwrap_or (at files.consoles guest) (record { input = []; output = [] })
 
 abbrev pub no_description : Description
-no_description = record { number = 0; target = OfConsole 0; readable = false; writable = false; append = false; offset = 0; calls = 0 }
+no_description = record { target = OfConsole 0; readable = false; writable = false; append = false; offset = 0; calls = 0 }
 
 abbrev pub description_of : Files → ℕ → Description
-description_of files d = find_or (λ x. x.number == d) files.descriptions no_description
+description_of files d = unwrap_or (at files.descriptions d) no_description
 
-abbrev pub is_descriptor : ℕ → ℕ → Descriptor → Bool
-is_descriptor process fd x = x.process == process && x.number == fd
+abbrev pub descriptors_of : Files → ℕ → Map ℕ
+descriptors_of files process = unwrap_or (at files.descriptors process) no_rows
 
--- the description that a descriptor of the process names
-abbrev pub named_by : Files → ℕ → ℕ → Option Description
-named_by files process fd = elim (find (is_descriptor process fd) files.descriptors) [ None ↦ None | Some x ↦ Some (description_of files x.description) ]
+-- the number of the description that a descriptor of the process names
+abbrev pub named_by : Files → ℕ → ℕ → Option ℕ
+named_by files process fd = at (descriptors_of files process) fd
 
-abbrev pub descriptors_of : Files → ℕ → List Descriptor
-descriptors_of files process = filter (λ x. x.process == process) files.descriptors
-
-abbrev pub lowest_free_descriptor : Files → ℕ → ℕ
-lowest_free_descriptor files process = lowest_not_in (map (λ x. x.number) (descriptors_of files process))
+-- the least number that is no key
+abbrev pub lowest_free : {V : Type 0} → Map V → ℕ
+lowest_free m = lowest_not_in (keys m)
 
 abbrev pub is_same_target : Target → Target → Bool
 is_same_target (OfNode a) (OfNode b) = a == b
@@ -103,62 +96,98 @@ is_same_target (OfConsole a) (OfConsole b) = a == b
 is_same_target _ _ = false
 
 abbrev pub is_open : Files → Target → Bool
-is_open files target = list_any (λ d. is_same_target d.target target) files.descriptions
+is_open files target = some_row (λ d (x : Description). is_same_target x.target target) files.descriptions
 
 abbrev pub total_bytes : Files → ℕ
-total_bytes files = sum_by (λ n. length n.bytes) files.nodes
+total_bytes files = total (λ (x : Inode). length x.bytes) files.nodes
 
 -- ---- changing
 
-abbrev pub set_description : Description → Files → Files
-set_description d files = record files { descriptions = update (λ x. x.number == d.number) (λ _. d) files.descriptions }
+-- what is there under a number is changed, and nothing where nothing is there
+abbrev pub change_description : ℕ → (Description → Description) → Files → Files
+change_description d f files = record files { descriptions = change files.descriptions d f }
 
-abbrev pub set_node : Inode → Files → Files
-set_node n files = record files { nodes = update (λ x. x.number == n.number) (λ _. n) files.nodes }
+abbrev pub change_node : ℕ → (Inode → Inode) → Files → Files
+change_node n f files = record files { nodes = change files.nodes n f }
 
-abbrev pub set_pipe : Pipe → Files → Files
-set_pipe p files = record files { pipes = update (λ x. x.number == p.number) (λ _. p) files.pipes }
+abbrev pub change_pipe : ℕ → (List ℕ → List ℕ) → Files → Files
+change_pipe p f files = record files { pipes = change files.pipes p f }
 
-abbrev pub set_console : Console → Files → Files
-set_console c files = record files { consoles = update (λ x. x.guest == c.guest) (λ _. c) files.consoles }
+abbrev pub change_console : ℕ → (Console → Console) → Files → Files
+change_console guest f files = record files { consoles = change files.consoles guest f }
 
--- a new description of a target, with the lowest number that is free
-abbrev pub add_description : Target → Bool → Bool → Bool → Files → Files
-add_description target readable writable append files = record files { descriptions = files.descriptions ++
-  record { number = lowest_not_in (map (λ x. x.number) files.descriptions); target = target; readable = readable; writable = writable;
-           append = append; offset = 0; calls = 0 } ∷ [] }
+abbrev pub set_offset : ℕ → ℕ → Files → Files
+set_offset d offset files = change_description d (λ (x : Description). record x { offset = offset }) files
+
+abbrev pub set_bytes : ℕ → List ℕ → Files → Files
+set_bytes n bytes files = change_node n (λ (x : Inode). record x { bytes = bytes }) files
+
+-- a pipe without bytes, and a console
+abbrev pub set_pipe : ℕ → List ℕ → Files → Files
+set_pipe p bytes files = record files { pipes = put files.pipes p bytes }
+
+abbrev pub set_console : ℕ → Console → Files → Files
+set_console guest c files = record files { consoles = put files.consoles guest c }
+
+-- a new description of the target under its lowest free number, and under the lowest free descriptor of the process
+abbrev pub opened : ℕ → Target → Bool → Bool → Bool → Files → Files
+opened process target readable writable append files =
+  let d = lowest_free files.descriptions in
+  let fds = descriptors_of files process in
+  record files {
+    descriptions = put files.descriptions d (record { target = target; readable = readable; writable = writable; append = append; offset = 0; calls = 0 });
+    descriptors = put files.descriptors process (put fds (lowest_free fds) d) }
+
+-- a new node without bytes, with a name in a directory; its number was never used
+abbrev pub made : ℕ → Name → Bool → Files → Files
+made parent name directory files = record files {
+  nodes = put files.nodes files.next_node (record { parent = parent; name = Some name; directory = directory; bytes = [] });
+  next_node = files.next_node + 1 }
 
 -- ---- what nobody names any more goes
 
-abbrev pub is_used : Files → Description → Bool
-is_used files d = nat_lt 0 d.calls || list_any (λ x. x.description == d.number) files.descriptors
+abbrev pub is_named : Files → ℕ → Bool
+is_named files d = some_row (λ process (fds : Map ℕ). some_row (λ fd named. named == d) fds) files.descriptors
+
+abbrev used_description : Files → ℕ → Description → Option Description
+used_description files d x = cond (nat_lt 0 x.calls || is_named files d) (Some x) None
 
 abbrev pub without_unused_descriptions : Files → Files
-without_unused_descriptions files = record files { descriptions = filter (is_used files) files.descriptions }
+without_unused_descriptions files = record files { descriptions = collect (used_description files) files.descriptions }
 
-abbrev pub has_name : Inode → Bool
-has_name n = is_some n.path
+abbrev used_node : Files → ℕ → Inode → Option Inode
+used_node files n x = cond (n == root || is_some x.name || is_open files (OfNode n)) (Some x) None
+
+abbrev used_pipe : Files → ℕ → List ℕ → Option (List ℕ)
+used_pipe files p bytes = cond (is_open files (ReadEnd p) || is_open files (WriteEnd p)) (Some bytes) None
 
 abbrev pub without_unused_targets : Files → Files
-without_unused_targets files = record files {
-  nodes = filter (λ n. has_name n || is_open files (OfNode n.number)) files.nodes;
-  pipes = filter (λ p. is_open files (ReadEnd p.number) || is_open files (WriteEnd p.number)) files.pipes }
+without_unused_targets files = record files { nodes = collect (used_node files) files.nodes; pipes = collect (used_pipe files) files.pipes }
 
 -- first the descriptions that no descriptor names and no call holds, then the unlinked nodes and the pipes that no description is open on
-abbrev pub settled : Files → Files
+unfoldable pub settled : Files → Files
 settled files = without_unused_targets (without_unused_descriptions files)
 
--- the files after all descriptors of the process were closed
+-- the files after a descriptor, and after all descriptors of a process, were closed
+abbrev pub closed : ℕ → ℕ → Files → Files
+closed process fd files = settled (record files { descriptors = put files.descriptors process (cut (descriptors_of files process) fd) })
+
 abbrev pub close_all : ℕ → Files → Files
-close_all process files = settled (record files { descriptors = without (λ x. x.process == process) files.descriptors })
+close_all process files = settled (record files { descriptors = cut files.descriptors process })
 
 -- a call takes a description, or gives it back
 abbrev pub hold : ℕ → Files → Files
-hold d files = record files { descriptions = update (λ x. x.number == d) (λ x. record x { calls = x.calls + 1 }) files.descriptions }
+hold d files = record files { descriptions = change files.descriptions d (λ (x : Description). record x { calls = x.calls + 1 }) }
 
 abbrev pub leave : ℕ → Files → Files
-leave d files = settled (record files { descriptions = update (λ x. x.number == d) (λ x. record x { calls = x.calls - 1 }) files.descriptions })
+leave d files = settled (record files { descriptions = change files.descriptions d (λ (x : Description). record x { calls = x.calls - 1 }) })
 
 -- a child has its parent's descriptors, with the same descriptions
 abbrev pub share : ℕ → ℕ → Files → Files
-share parent child files = record files { descriptors = files.descriptors ++ map (λ (x : Descriptor). record x { process = child }) (descriptors_of files parent) }
+share parent child files = record files { descriptors = put files.descriptors child (descriptors_of files parent) }
+
+-- a guest's console with that input, and the descriptors 0, 1 and 2 on it
+abbrev pub with_console : ℕ → List ℕ → Files → Files
+with_console guest input files =
+  opened guest (OfConsole guest) false true false (opened guest (OfConsole guest) false true false (opened guest (OfConsole guest) true false false
+    (set_console guest (record { input = input; output = [] }) files)))

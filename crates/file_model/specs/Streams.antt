@@ -1,11 +1,15 @@
 -- A stream's pieces: whether one can move now, and what it moves.
-use Rattle.std.specs.Prelude.{ℕ, ◌+◌, ◌-◌, Bool, true, false, not, cond, ◌&&◌, ◌==◌, nat_lt, nat_le, min, max, List, [], ◌++◌, length, take, drop, Option, Some, None, pos}
-use Rattle.mck_word.specs.Lists.{spliced}
 use Rattle.file_model.specs.Errno.{EFBIG, ENOSPC, EPIPE}
-use Rattle.file_model.specs.Files.{Files, Target, OfNode, ReadEnd, WriteEnd, OfConsole, Description, node_of, pipe_of, console_of, description_of, is_open, total_bytes, set_node, set_pipe, set_console, set_description, most_file_bytes, most_bytes_of_all_files, most_console_bytes, most_pipe_bytes}
+use Rattle.file_model.specs.declared.descriptions.Description.{Description}
+use Rattle.file_model.specs.declared.descriptions.Target.{Target}
+use Rattle.file_model.specs.declared.descriptions.Target.TheVariants.{OfNode, ReadEnd, WriteEnd, OfConsole}
+use Rattle.file_model.specs.Files.{Files, Console, Inode, node_of, pipe_of, console_of, description_of, is_open, total_bytes, change_node, change_pipe, change_console, set_offset, most_file_bytes, most_bytes_of_all_files, most_console_bytes, most_pipe_bytes}
 use Rattle.file_model.specs.Operations.{FileResult, done, fails}
 use Rattle.file_model.specs.declared.operations.Readiness.{Readiness}
 use Rattle.file_model.specs.declared.operations.Readiness.TheVariants.{Ready, NotReady, FileStep}
+use Rattle.mck_word.specs.Lists.{spliced}
+use Rattle.mck_word.specs.Maps.{at}
+use Rattle.std.specs.Prelude.{ℕ, ◌+◌, ◌-◌, Bool, true, false, not, cond, ◌&&◌, ◌==◌, nat_lt, nat_le, min, max, List, [], ◌++◌, length, take, drop, Option, Some, None, pos}
 
 -- where the next piece is placed in a file: by the call's own offset, at the end, or at the description's offset
 abbrev pub read_offset : Description → Option ℕ → ℕ → ℕ
@@ -20,10 +24,10 @@ write_offset files d None moved = elim d.target [
   | WriteEnd n ↦ d.offset
   | OfConsole n ↦ d.offset ]
 
--- the description after a piece that ends at that offset: with an offset of the call's own it stays
-abbrev moved_on : Description → Option ℕ → ℕ → Description
-moved_on d None offset = record d { offset = offset }
-moved_on d (Some at) offset = d
+-- the offset after a piece that ends there: with an offset of the call's own the description's stays
+abbrev pub moved_on : ℕ → Option ℕ → ℕ → Files → Files
+moved_on d None offset files = set_offset d offset files
+moved_on d (Some at) offset files = files
 
 -- ---- reading
 
@@ -34,7 +38,7 @@ ready_if false = FileStep
 abbrev read_ready_of : Files → Description → Option ℕ → ℕ → Target → Readiness
 read_ready_of files d at moved (OfNode n) = ready_if (nat_lt (read_offset d at moved) (length (node_of files n).bytes))
 read_ready_of files d at moved (ReadEnd p) =
-  cond (nat_lt 0 (length (pipe_of files p).bytes)) Ready
+  cond (nat_lt 0 (length (pipe_of files p))) Ready
   (cond (is_open files (WriteEnd p) && moved == 0) NotReady FileStep)
 read_ready_of files d at moved (WriteEnd p) = FileStep
 read_ready_of files d at moved (OfConsole guest) = ready_if (nat_lt 0 (length (console_of files guest).input))
@@ -45,23 +49,30 @@ read_ready files description at moved = let d = description_of files description
 -- the bytes that a piece of at most n bytes gets
 abbrev bytes_there : Files → Description → Option ℕ → ℕ → Target → List ℕ
 bytes_there files d at moved (OfNode n) = drop (read_offset d at moved) (node_of files n).bytes
-bytes_there files d at moved (ReadEnd p) = (pipe_of files p).bytes
+bytes_there files d at moved (ReadEnd p) = pipe_of files p
 bytes_there files d at moved (WriteEnd p) = []
 bytes_there files d at moved (OfConsole guest) = (console_of files guest).input
 
--- the files after those many bytes were got
-abbrev got : Files → Description → Option ℕ → ℕ → ℕ → Target → Files
-got files d at moved n (OfNode node) = set_description (moved_on d at (read_offset d at moved + n)) files
-got files d at moved n (ReadEnd p) = set_pipe (record { number = p; bytes = drop n (pipe_of files p).bytes }) files
+-- a pipe, and the input of a console, without its first n bytes
+abbrev pub without_front : ℕ → ℕ → Files → Files
+without_front p n files = change_pipe p (λ (there : List ℕ). drop n there) files
+
+abbrev pub without_input : ℕ → ℕ → Files → Files
+without_input guest n files = change_console guest (λ (c : Console). record c { input = drop n c.input }) files
+
+-- the files after so many bytes were got
+abbrev got : Files → ℕ → Option ℕ → ℕ → ℕ → Target → Files
+got files d at moved n (OfNode node) = moved_on d at (read_offset (description_of files d) at moved + n) files
+got files d at moved n (ReadEnd p) = without_front p n files
 got files d at moved n (WriteEnd p) = files
-got files d at moved n (OfConsole guest) = set_console (record (console_of files guest) { input = drop n (console_of files guest).input }) files
+got files d at moved n (OfConsole guest) = without_input guest n files
 
 -- a piece of a reading stream; it gets nothing where the stream is at its end
 abbrev pub get_piece : Files → ℕ → Option ℕ → ℕ → ℕ → FileResult
 get_piece files description at moved most =
   let d = description_of files description in
   let bytes = take most (bytes_there files d at moved d.target) in
-  record { answer = pos (length bytes); out = bytes; files = got files d at moved (length bytes) d.target }
+  record { answer = pos (length bytes); out = bytes; files = got files description at moved (length bytes) d.target }
 
 -- ---- writing
 
@@ -82,7 +93,7 @@ write_ready_of files d at moved n (OfNode node) =
 write_ready_of files d at moved n (ReadEnd p) = FileStep
 write_ready_of files d at moved n (WriteEnd p) =
   cond (not (is_open files (ReadEnd p))) FileStep
-  (cond (nat_lt (length (pipe_of files p).bytes) most_pipe_bytes) Ready NotReady)
+  (cond (nat_lt (length (pipe_of files p)) most_pipe_bytes) Ready NotReady)
 write_ready_of files d at moved n (OfConsole guest) = ready_if (nat_lt (length (console_of files guest).output) most_console_bytes)
 
 abbrev pub write_ready : Files → ℕ → Option ℕ → ℕ → ℕ → Readiness
@@ -95,27 +106,34 @@ write_error files d at moved (ReadEnd p) = EPIPE
 write_error files d at moved (WriteEnd p) = EPIPE
 write_error files d at moved (OfConsole guest) = ENOSPC
 
-abbrev put_bytes : Files → Description → Option ℕ → ℕ → List ℕ → Target → FileResult
+-- a file with those bytes at an offset, and a pipe and the output of a console with those bytes behind theirs
+abbrev pub with_bytes_at : ℕ → ℕ → List ℕ → Files → Files
+with_bytes_at n offset bytes files = change_node n (λ (x : Inode). record x { bytes = spliced x.bytes offset bytes }) files
+
+abbrev pub with_back : ℕ → List ℕ → Files → Files
+with_back p bytes files = change_pipe p (λ (there : List ℕ). there ++ bytes) files
+
+abbrev pub with_output : ℕ → List ℕ → Files → Files
+with_output guest bytes files = change_console guest (λ (c : Console). record c { output = c.output ++ bytes }) files
+
+abbrev put_bytes : Files → ℕ → Option ℕ → ℕ → List ℕ → Target → FileResult
 put_bytes files d at moved bytes (OfNode node) =
-  let offset = write_offset files d at moved in
+  let offset = write_offset files (description_of files d) at moved in
   let n = cut_at most_file_bytes offset (length bytes) in
-  let x = node_of files node in
-  done (pos n) (set_description (moved_on d at (offset + n)) (set_node (record x { bytes = spliced x.bytes offset (take n bytes) }) files))
+  done (pos n) (moved_on d at (offset + n) (with_bytes_at node offset (take n bytes) files))
 put_bytes files d at moved bytes (ReadEnd p) = done (pos 0) files
 put_bytes files d at moved bytes (WriteEnd p) =
-  let there = (pipe_of files p).bytes in
-  let n = cut_at most_pipe_bytes (length there) (length bytes) in
-  done (pos n) (set_pipe (record { number = p; bytes = there ++ take n bytes }) files)
+  let n = cut_at most_pipe_bytes (length (pipe_of files p)) (length bytes) in
+  done (pos n) (with_back p (take n bytes) files)
 put_bytes files d at moved bytes (OfConsole guest) =
-  let c = console_of files guest in
-  let n = cut_at most_console_bytes (length c.output) (length bytes) in
-  done (pos n) (set_console (record c { output = c.output ++ take n bytes }) files)
+  let n = cut_at most_console_bytes (length (console_of files guest).output) (length bytes) in
+  done (pos n) (with_output guest (take n bytes) files)
 
 -- a piece of n bytes of a writing stream
 abbrev pub put_piece : Files → ℕ → Option ℕ → ℕ → ℕ → List ℕ → FileResult
 put_piece files description at moved n bytes =
   let d = description_of files description in
   elim (write_ready files description at moved n) [
-  | Ready ↦ put_bytes files d at moved bytes d.target
+  | Ready ↦ put_bytes files description at moved bytes d.target
   | NotReady ↦ done (pos 0) files
   | FileStep ↦ fails (write_error files d at moved d.target) files ]

@@ -5,6 +5,8 @@
 //! Operations, Acts, Streams, FileSteps in this order.
 #![tactic(auto)]
 
+pub mod descriptions;
 pub mod operations;
 
+pub use descriptions::{Description, Target};
 pub use operations::{FileAns, FileOp, PathRow, Readiness};

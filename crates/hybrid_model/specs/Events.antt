@@ -19,7 +19,7 @@ use Rattle.std.specs.Prelude.{Bool, List, None, Option, Some, [], length, nat_lt
 
 -- ---- when an event may happen
 
-abbrev has_worker : Here → ℕ → Bool
+abbrev pub has_worker : Here → ℕ → Bool
 has_worker h w = nat_lt w h.workers
 
 abbrev pub may_here : Event → Here → Bool
@@ -56,7 +56,7 @@ give_up_turn p w h = record h { turns = turn_given_up p h.side.linux h.node.file
 abbrev pub with_fetched : ℕ → List Msg → Fetched → Here → Here
 with_fetched r rest f h = with_side h (record h.side { linux = f.linux; book = f.book; round = f.round; to_linux = with_ring r rest h.side.to_linux })
 
-abbrev fetch_from : ℕ → List Msg → Here → Here
+abbrev pub fetch_from : ℕ → List Msg → Here → Here
 fetch_from r [] h = h
 fetch_from r (m ∷ ms) h = with_fetched r ms (fetch_message m h.side.linux h.side.book h.side.round) h
 
@@ -69,7 +69,7 @@ abbrev pub call_stepped : ℕ → ℕ → After → LinuxSide → Here → Here
 call_stepped p w a l h =
   with_node (with_side (give_up_turn p w h) (record h.side { linux = l; book = stepped_book h.side.linux h.side.book w a })) (set_files a.files h.node)
 
-abbrev copy_to : ℕ → ℕ → ℕ → Moved → Here → Here
+abbrev pub copy_to : ℕ → ℕ → ℕ → Moved → Here → Here
 copy_to p w f m h = record (call_stepped p w m.after (copied h.side.linux w m.after) h) { frames = put h.frames f m.page }
 
 unfoldable pub copy : ℕ → ℕ → Here → Here
@@ -121,10 +121,10 @@ after_here (AckClear q) p h = ack_clear h
 
 -- ---- in the whole state
 
-abbrev of_thread : Node → ℕ → ℕ
+abbrev pub of_thread : Node → ℕ → ℕ
 of_thread node t = (thread_of node t).process
 
-abbrev of_line : Option ScriptLine → ℕ
+abbrev pub of_line : Option ScriptLine → ℕ
 of_line None = 0
 of_line (Some l) = l.process
 

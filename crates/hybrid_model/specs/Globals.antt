@@ -62,12 +62,12 @@ abbrev pub TurnsHold : Pair → Type 0
 TurnsHold pair = (e : ℕ) (t : Turn) → at pair.turns e ≡ Some t → TurnHolds pair e t
 
 -- the description that a call holds: an ended one holds none
-abbrev description_held : CallStatus → Option ℕ
+abbrev pub description_held : CallStatus → Option ℕ
 description_held (Active p) = p.found
 description_held (Blocked p) = p.found
 description_held (Over answer) = None
 
-abbrev is_number : ℕ → Option ℕ → Bool
+abbrev pub is_number : ℕ → Option ℕ → Bool
 is_number d None = false
 is_number d (Some n) = n == d
 

@@ -12,7 +12,7 @@ use Rattle.kernel_model.specs.declared.steps.Step.{Step}
 use Rattle.mck_word.specs.Identifiers.{tid}
 use Rattle.std.specs.Prelude.{Bool, List, None, Option, Some, [], false, replicate, true, ℕ, ◌∷◌}
 
-abbrev one_step : Step → List Step
+abbrev pub one_step : Step → List Step
 one_step s = s ∷ []
 
 abbrev caller_number : Option ℕ → ℕ
@@ -28,19 +28,19 @@ abbrev pub image_of_answer : Option Row → ℕ → List Step
 image_of_answer None t = one_step (Steps.PieceFault (tid t))
 image_of_answer (Some row) t = []
 
-abbrev image_of_interrupt : Bool → ℕ → List Step
+abbrev pub image_of_interrupt : Bool → ℕ → List Step
 image_of_interrupt true t = one_step (Steps.Mark (tid t))
 image_of_interrupt false t = one_step (Steps.Interrupted (tid t))
 
-abbrev image_of_park : Bool → ℕ → List Step
+abbrev pub image_of_park : Bool → ℕ → List Step
 image_of_park true t = one_step (Steps.Interrupted (tid t))
 image_of_park false t = one_step (Steps.Block (tid t))
 
-abbrev thread_of_request : Side → ℕ → ℕ
+abbrev pub thread_of_request : Side → ℕ → ℕ
 thread_of_request s q = (call_of s.book q).tid.0
 
 abbrev pub image_here : Event → ℕ → Here → List Step
-image_here (Run core t n) p h = replicate (executed_in_run p t.0 n h) (Steps.Instr t)
+image_here (Run core t n) p h = replicate (executed_in_run t.0 n h) (Steps.Instr t)
 image_here (Trap t) p h = one_step (Steps.Trap t)
 image_here (Deliver t) p h = one_step (Steps.Deliver t)
 image_here (Intake q) p h = image_of_intake h.side.to_lwk h.side

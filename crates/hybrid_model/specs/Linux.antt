@@ -1,6 +1,8 @@
 -- The events of the Linux side, each over the parts of the process that it reads or changes.
 use Rattle.clear_rounds.specs.declared.Phase.TheVariants.{Taken}
-use Rattle.file_model.specs.Files.{Files, OfConsole, OfNode, ReadEnd, Target, WriteEnd, description_of}
+use Rattle.file_model.specs.Files.{Files, description_of}
+use Rattle.file_model.specs.declared.descriptions.Target.{Target}
+use Rattle.file_model.specs.declared.descriptions.Target.TheVariants.{OfConsole, OfNode, ReadEnd, WriteEnd}
 use Rattle.file_model.specs.declared.operations.Readiness.{Readiness}
 use Rattle.hybrid_model.specs.Sides.{LinuxSide, Book, Service, Row, Round, Turn, with_state, state_of, serves, served, service_of, with_service, looked_up, pin_of, with_phase}
 use Rattle.hybrid_model.specs.Spaces.{first_number, rest_numbers}
@@ -20,7 +22,7 @@ use Rattle.std.specs.Prelude.{Bool, List, None, Option, Some, [], cond, false, i
 -- ---- a worker and its request
 
 -- the worker serves a request that is Held
-abbrev is_held : ReqState → Bool
+abbrev pub is_held : ReqState → Bool
 is_held Held = true
 is_held _ = false
 
@@ -61,33 +63,33 @@ row_for l w = looked_up (at l.mirror (next_piece (served l w).progress).page) (n
 -- ---- turns
 
 -- the end of a pipe on which a call's stream is, as a number
-abbrev end_of_target : Target → Option ℕ
+abbrev pub end_of_target : Target → Option ℕ
 end_of_target (OfNode n) = None
 end_of_target (ReadEnd n) = Some (2 * n)
 end_of_target (WriteEnd n) = Some (2 * n + 1)
 end_of_target (OfConsole n) = None
 
-abbrev end_of_found : Files → Option ℕ → Option ℕ
+abbrev pub end_of_found : Files → Option ℕ → Option ℕ
 end_of_found files None = None
 end_of_found files (Some d) = end_of_target (description_of files d).target
 
 abbrev pub pipe_end : Files → Progress → Option ℕ
 pipe_end files p = end_of_found files p.found
 
-abbrev is_turn_for : ℕ → ℕ → Option Turn → Bool
+abbrev pub is_turn_for : ℕ → ℕ → Option Turn → Bool
 is_turn_for p q None = false
 is_turn_for p q (Some t) = t.process == p && t.request == q
 
-abbrev without_turn : ℕ → ℕ → Option ℕ → Map Turn → Map Turn
+abbrev pub without_turn : ℕ → ℕ → Option ℕ → Map Turn → Map Turn
 without_turn p q None turns = turns
 without_turn p q (Some e) turns = cond (is_turn_for p q (at turns e)) (cut turns e) turns
 
-abbrev with_turn : ℕ → ℕ → Option ℕ → Map Turn → Map Turn
+abbrev pub with_turn : ℕ → ℕ → Option ℕ → Map Turn → Map Turn
 with_turn p q None turns = turns
 with_turn p q (Some e) turns = put turns e (record { process = p; request = q })
 
 -- another request has the turn of that end
-abbrev other_has_turn : Map Turn → Option ℕ → ℕ → ℕ → Bool
+abbrev pub other_has_turn : Map Turn → Option ℕ → ℕ → ℕ → Bool
 other_has_turn turns None p q = false
 other_has_turn turns (Some e) p q = is_some (at turns e) && not (is_turn_for p q (at turns e))
 
@@ -106,7 +108,7 @@ pub record Fetched : Type 0 where
 abbrev pub fetched_as : LinuxSide → Book → Option Round → Fetched
 fetched_as l b o = record { linux = l; book = b; round = o }
 
-abbrev phases_in : Plan → List CallPhase
+abbrev pub phases_in : Plan → List CallPhase
 phases_in (Delegated phases) = phases
 phases_in _ = []
 
@@ -138,14 +140,14 @@ fetch_empty w l b o =
 unfoldable pub fetch_clear : PageRange → LinuxSide → Book → Option Round → Fetched
 fetch_clear r l b o = fetched_as (record l { mirror = keep l.mirror (λ page. not (in_range r page)); cleared = l.cleared + 1 }) b (with_phase o Taken)
 
-abbrev marked_for_linux : Bool → LinuxSide → ℕ → LinuxSide
+abbrev pub marked_for_linux : Bool → LinuxSide → ℕ → LinuxSide
 marked_for_linux true l q = l
 marked_for_linux false l q = with_service l q (record (service_of l.services q) { interrupted = true })
 
 unfoldable pub fetch_interrupt : ℕ → LinuxSide → Book → Option Round → Fetched
 fetch_interrupt q l b o = fetched_as (marked_for_linux (is_ended_or_replied (state_of b q)) l q) b o
 
-abbrev fetch_answer : ℕ → ℕ → ℕ → Option Row → LinuxSide → Book → Option Round → Fetched
+abbrev pub fetch_answer : ℕ → ℕ → ℕ → Option Row → LinuxSide → Book → Option Round → Fetched
 fetch_answer w page number None l b o = fetch_empty w l b o
 fetch_answer w page number (Some row) l b o = fetch_row w page number row l b o
 
@@ -181,7 +183,7 @@ fault_of l w = Fault w (next_piece (served l w).progress).page (needed_access (s
 abbrev pub may_pin : LinuxSide → Book → Files → ℕ → Bool
 may_pin l b files w = is_free_to_act l b w && is_ready (kind_for l files w) && is_some (row_for l w)
 
-abbrev pinned : LinuxSide → ℕ → Option Row → LinuxSide
+abbrev pub pinned : LinuxSide → ℕ → Option Row → LinuxSide
 pinned l w None = l
 pinned l w (Some row) = record l { pins = put l.pins w (record { page = (next_piece (served l w).progress).page; frame = row.0; rights = row.1; copied = false }) }
 
@@ -209,7 +211,7 @@ stepped_book l b w a = with_state b (serves l w) (state_if a.ended)
 
 -- ---- Copy and Unpin
 
-abbrev is_uncopied : Option Pin → Bool
+abbrev pub is_uncopied : Option Pin → Bool
 is_uncopied None = false
 is_uncopied (Some x) = not x.copied
 
@@ -223,7 +225,7 @@ moved_by p l files w bytes = move_piece (served l w).progress files p bytes
 unfoldable pub copied : LinuxSide → ℕ → After → LinuxSide
 copied l w a = record (stepped l w a) { pins = put l.pins w (record (pin_of l w) { copied = true }) }
 
-abbrev is_copied : Option Pin → Bool
+abbrev pub is_copied : Option Pin → Bool
 is_copied None = false
 is_copied (Some x) = x.copied
 
@@ -254,14 +256,14 @@ park_stops l b w =
 unfoldable pub park_blocks : LinuxSide → Book → ℕ → LinuxSide × Book
 park_blocks l b w = (record l { workers = cut l.workers w }, with_state b (serves l w) Parked)
 
-abbrev parks : Bool → LinuxSide → Book → ℕ → LinuxSide × Book
+abbrev pub parks : Bool → LinuxSide → Book → ℕ → LinuxSide × Book
 parks true l b w = park_stops l b w
 parks false l b w = park_blocks l b w
 
 abbrev pub park : LinuxSide → Book → ℕ → LinuxSide × Book
 park l b w = parks (served l w).interrupted l b w
 
-abbrev files_if : Bool → Progress → Files → Files
+abbrev pub files_if : Bool → Progress → Files → Files
 files_if true p files = given_back p files
 files_if false p files = files
 
@@ -298,10 +300,10 @@ finish l b w =
 abbrev pub reply_of : LinuxSide → ℕ → Msg
 reply_of l w = Reply (record { 0 = serves l w }) (served l w).answer
 
-abbrev no_pin_in : PageRange → Map Pin → Bool
+abbrev pub no_pin_in : PageRange → Map Pin → Bool
 no_pin_in r pins = each_row (λ w (x : Pin). not (in_range r x.page)) pins
 
-abbrev clear_in : Option Round → LinuxSide → Bool
+abbrev pub clear_in : Option Round → LinuxSide → Bool
 clear_in (Some (Taken, r)) l = no_pin_in r l.pins
 clear_in _ l = false
 

@@ -26,17 +26,17 @@ needed_flags = 8 ∷ 9 ∷ 10 ∷ 11 ∷ 16 ∷ []
 abbrev are_clone_flags : ℕ → Bool
 are_clone_flags flags = list_all (λ b. has_bit b flags) needed_flags && minus flags 0x17d0f00 == 0
 
-abbrev cloned_thread : Node → Thread → ℕ → ℕ → ℕ → ℕ → Thread
+abbrev pub cloned_thread : Node → Thread → ℕ → ℕ → ℕ → ℕ → Thread
 cloned_thread node x flags stack tls child_tid = record x {
   place = lowest_free_place node x.process;
   regs = set_reg 10 0 (cond (stack == 0) (cond (has_bit 19 flags) (set_reg 4 tls x.regs) x.regs)
     (set_reg 2 stack (cond (has_bit 19 flags) (set_reg 4 tls x.regs) x.regs)));
   pending = 0; clear_address = cond (has_bit 21 flags) child_tid 0; back = false; does = Ready }
 
-abbrev with_thread : Thread → Node → Node
+abbrev pub with_thread : Thread → Node → Node
 with_thread x node = record node { threads = put node.threads node.next_number x; next_number = node.next_number + 1 }
 
-abbrev clones : ℕ → ℕ → ℕ → ℕ → ℕ → ℕ → View → View
+abbrev pub clones : ℕ → ℕ → ℕ → ℕ → ℕ → ℕ → View → View
 clones t flags stack parent_tid tls child_tid v =
   let n = v.node.next_number in
   let made = on_node (with_thread (cloned_thread v.node (thread_of v.node t) flags stack tls child_tid)) v in
@@ -58,7 +58,7 @@ fork_signal = 17
 abbrev pub are_fork_flags : ℕ → Bool
 are_fork_flags flags = flags % 256 == fork_signal && minus flags (0x1380000 + fork_signal) == 0
 
-abbrev child_process : ℕ → Process → Process
+abbrev pub child_process : ℕ → Process → Process
 child_process parent p = record p { parent = parent; waited = false; first_code = None; life = Living; instructions = 0; pending = 0 }
 
 abbrev child_regs : ℕ → ℕ → ℕ → Regs → Regs
@@ -66,12 +66,12 @@ child_regs flags stack tls r =
   let s = cond (has_bit 19 flags) (set_reg 4 tls r) r in
   set_reg 10 0 (cond (stack == 0) s (set_reg 2 stack s))
 
-abbrev child_thread : Thread → ℕ → ℕ → ℕ → ℕ → ℕ → Thread
+abbrev pub child_thread : Thread → ℕ → ℕ → ℕ → ℕ → ℕ → Thread
 child_thread x child flags stack tls child_tid = record x {
   process = child; place = 0; regs = child_regs flags stack tls x.regs; pending = 0;
   clear_address = cond (has_bit 21 flags) child_tid 0; back = false; does = Ready }
 
-abbrev with_child : ℕ → ℕ → ℕ → ℕ → ℕ → ℕ → Node → Node
+abbrev pub with_child : ℕ → ℕ → ℕ → ℕ → ℕ → ℕ → Node → Node
 with_child t child flags stack tls child_tid node =
   let x = thread_of node t in
   record node {
@@ -81,7 +81,7 @@ with_child t child flags stack tls child_tid node =
     next_number = node.next_number + 1 }
 
 -- the child has its parent's memory; what is stored there besides
-abbrev child_stores : ℕ → ℕ → ℕ → Memory → List Store
+abbrev pub child_stores : ℕ → ℕ → ℕ → Memory → List Store
 child_stores child flags child_tid m =
   cond (has_bit 24 flags && may_access m Write child_tid 4) (record { address = child_tid; bytes = little_endian 4 child } ∷ []) []
 
@@ -90,13 +90,13 @@ pub data Cloned : Type 0 where
   CallDone : View → Cloned
   Born : View → (child : ℕ) → (stores : List Store) → Cloned
 
-abbrev forks : ℕ → ℕ → ℕ → ℕ → ℕ → ℕ → View → Cloned
+abbrev pub forks : ℕ → ℕ → ℕ → ℕ → ℕ → ℕ → View → Cloned
 forks t flags stack parent_tid tls child_tid v =
   let child = v.node.next_number in
   let told = cond (has_bit 20 flags) (try_store parent_tid (little_endian 4 child) v) v in
   Born (answers t (pos child) (on_node (with_child t child flags stack tls child_tid) told)) child (child_stores child flags child_tid v.memory)
 
-abbrev fork : ℕ → ℕ → ℕ → ℕ → ℕ → ℕ → ℕ → View → Cloned
+abbrev pub fork : ℕ → ℕ → ℕ → ℕ → ℕ → ℕ → ℕ → View → Cloned
 fork t free flags stack parent_tid tls child_tid v =
   cond (nat_le most_processes (count v.node.processes)) (CallDone (refuses t EAGAIN v))
   (cond (nat_lt free (count v.memory)) (CallDone (refuses t ENOMEM v))
@@ -134,16 +134,16 @@ abbrev end_status : End → ℕ
 end_status (Exit code) = 256 * code
 end_status (Killed signal) = signal
 
-abbrev status_of_life : Life → ℕ
+abbrev pub status_of_life : Life → ℕ
 status_of_life Living = 0
 status_of_life (Dying e) = end_status e
 status_of_life (Ended e) = end_status e
 
-abbrev noted_waited : ℕ → View → View
+abbrev pub noted_waited : ℕ → View → View
 noted_waited child v = on_node (change_process child (λ (x : Process). record x { waited = true })) v
 
 -- the end of a child is told, and is noted as waited for in every case
-abbrev tells_end : ℕ → ℕ → ℕ → View → View
+abbrev pub tells_end : ℕ → ℕ → ℕ → View → View
 tells_end t child status v =
   let word = little_endian 4 (status_of_life (process_of v.node child).life) in
   cond (status == 0) (answers t (pos child) (noted_waited child v))
@@ -151,7 +151,7 @@ tells_end t child status v =
   (refuses t EFAULT (noted_waited child v)))
 
 -- the lowest child that is Ended, or the refusal where no child is selected
-abbrev waits_for : ℕ → ℤ → ℕ → View → Option ℕ → View
+abbrev pub waits_for : ℕ → ℤ → ℕ → View → Option ℕ → View
 waits_for t pid status v None = refuses t ECHILD v
 waits_for t pid status v (Some child) = tells_end t child status v
 
@@ -162,7 +162,7 @@ wait_over t pid status v = waits_for t pid status v (ended_child v.node (thread_
 abbrev pub may_end_wait : Node → ℕ → ℤ → Bool
 may_end_wait node p pid = is_some (ended_child node p pid) || not (any_selected node p pid)
 
-abbrev begins_wait : ℕ → ℤ → ℕ → ℕ → View → View
+abbrev pub begins_wait : ℕ → ℤ → ℕ → ℕ → View → View
 begins_wait t pid status options v = cond (has_bit 0 options) (answers t (pos 0) v) (on_node (set_does t (InWait pid status)) v)
 
 abbrev pub wait4 : ℕ → ℤ → ℕ → ℕ → ℕ → View → View

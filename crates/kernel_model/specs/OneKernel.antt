@@ -1,21 +1,20 @@
 -- The one-kernel machine: its state, one process at a time, and its state at the boot.
-use Rattle.file_model.specs.Acts.{made, opened}
-use Rattle.file_model.specs.Files.{Files, OfConsole}
-use Rattle.file_model.specs.Paths.{at_path, names_of}
+use Rattle.file_model.specs.Files.{Files, root_only, with_console}
+use Rattle.file_model.specs.Paths.{with_file}
 use Rattle.isa_model.specs.Memory.{Memory}
+use Rattle.job_model.specs.declared.image.Image.{Image}
 use Rattle.job_model.specs.declared.job.FileLine.{FileLine}
 use Rattle.job_model.specs.declared.job.GuestLine.{GuestLine}
 use Rattle.job_model.specs.declared.job.InputLine.{InputLine}
-use Rattle.job_model.specs.declared.image.Image.{Image}
 use Rattle.job_model.specs.declared.job.Job.{Job}
 use Rattle.job_model.specs.declared.job.SignalLine.{SignalLine}
 use Rattle.kernel_model.specs.Layout.{guest_memory, guest_regs, heap_base_of}
 use Rattle.kernel_model.specs.Nodes.{Node, Process, ScriptLine, Thread, no_action, no_process, no_thread}
 use Rattle.kernel_model.specs.Progress.{Progress}
 use Rattle.kernel_model.specs.declared.Life.TheVariants.{Living}
-use Rattle.mck_word.specs.Lists.{count_from, update}
+use Rattle.mck_word.specs.Lists.{count_from}
 use Rattle.mck_word.specs.Maps.{Map, at, put, count, no_rows}
-use Rattle.std.specs.Prelude.{Bool, List, None, Option, Some, [], cond, false, find, fold, is_some, length, replicate, sum_by, true, unwrap_or, ℕ, ℤ, ◌++◌, ◌+◌, ◌-◌, ◌==◌, ◌∷◌}
+use Rattle.std.specs.Prelude.{Bool, List, None, Option, Some, [], find, fold, length, replicate, sum_by, unwrap_or, ℕ, ℤ, ◌+◌, ◌-◌, ◌==◌, ◌∷◌}
 
 -- ---- the state
 
@@ -64,29 +63,6 @@ put_one_here one p h = record { own = with_born (put one.own p h.own) h.born; no
 
 -- ---- files at the boot
 
-abbrev root_only : Files
-root_only = record {
-  nodes = record { number = 1; path = Some []; directory = true; bytes = [] } ∷ [];
-  next_node = 2; pipes = []; descriptions = []; descriptors = []; consoles = [] }
-
--- the directories above the names that are not there yet are made, from the root down
-abbrev with_directories : List (List ℕ) → List (List ℕ) → Files → Files
-with_directories here [] files = files
-with_directories here (name ∷ []) files = files
-with_directories here (name ∷ next ∷ names) files =
-  with_directories (here ++ name ∷ []) (next ∷ names)
-    (cond (is_some (at_path files (here ++ name ∷ []))) files (made (here ++ name ∷ []) true files))
-
-abbrev with_bytes : ℕ → List ℕ → Files → Files
-with_bytes n bytes files = record files { nodes = update (λ x. x.number == n) (λ x. record x { bytes = bytes }) files.nodes }
-
--- a file with the directories above it
-abbrev pub with_file : Files → FileLine → Files
-with_file files line =
-  let path = names_of line.path in
-  let below = with_directories [] path files in
-  with_bytes below.next_node line.bytes (made path false below)
-
 abbrev bytes_of_input : Option InputLine → List ℕ
 bytes_of_input None = []
 bytes_of_input (Some l) = l.bytes
@@ -94,18 +70,15 @@ bytes_of_input (Some l) = l.bytes
 abbrev input_of : Job → ℕ → List ℕ
 input_of job guest = bytes_of_input (find (λ (l : InputLine). l.guest == guest) job.inputs)
 
--- a guest's console, and its descriptors 0, 1 and 2
-abbrev pub with_console : ℕ → List ℕ → Files → Files
-with_console guest input files =
-  opened guest (OfConsole guest) false true false (opened guest (OfConsole guest) false true false (opened guest (OfConsole guest) true false false
-    (record files { consoles = files.consoles ++ record { guest = guest; input = input; output = [] } ∷ [] })))
+abbrev with_line : Files → FileLine → Files
+with_line files line = with_file line.path line.bytes files
 
 abbrev with_consoles : Job → List ℕ → Files → Files
 with_consoles job [] files = files
 with_consoles job (guest ∷ guests) files = with_consoles job guests (with_console guest (input_of job guest) files)
 
 unfoldable pub boot_files : Job → Files
-boot_files job = with_consoles job (count_from 1 (length job.guests)) (fold with_file root_only job.files)
+boot_files job = with_consoles job (count_from 1 (length job.guests)) (fold with_line root_only job.files)
 
 -- ---- processes and threads at the boot
 

@@ -89,7 +89,7 @@ stream_operation p = cond (is_read p.number)
   (Get (description_found p) (offset_argument p) p.moved (next_piece p).len)
   (Put (description_found p) (offset_argument p) p.moved (next_piece p).len)
 
-abbrev kind_of_phase : Files → Progress → Phase → Readiness
+abbrev pub kind_of_phase : Files → Progress → Phase → Readiness
 kind_of_phase files p (Gather rs) = cond (has_piece p) Ready FileStep
 kind_of_phase files p Act = FileStep
 kind_of_phase files p (Scatter rs) = cond (has_piece p) Ready FileStep
@@ -133,30 +133,30 @@ pub record After : Type 0 where
   pub ended : Option ℤ
   pub files : Files
 
-abbrev goes_on : Progress → Files → After
+abbrev pub goes_on : Progress → Files → After
 goes_on p files = record { progress = p; ended = None; files = files }
 
-abbrev ends : ℤ → Progress → Files → After
+abbrev pub ends : ℤ → Progress → Files → After
 ends answer p files = record { progress = p; ended = Some answer; files = given_back p files }
 
-abbrev is_used_up : Phase → Bool
+abbrev pub is_used_up : Phase → Bool
 is_used_up (Gather rs) = length (without_empty rs) == 0
 is_used_up Act = false
 is_used_up (Scatter rs) = length (without_empty rs) == 0
 is_used_up (Stream rs) = length (without_empty rs) == 0
 
-abbrev drop_used_up : List Phase → List Phase
+abbrev pub drop_used_up : List Phase → List Phase
 drop_used_up [] = []
 drop_used_up (phase ∷ phases) = cond (is_used_up phase) (drop_used_up phases) (phase ∷ phases)
 
-abbrev answer_of : Progress → ℤ
+abbrev pub answer_of : Progress → ℤ
 answer_of p = cond (is_read p.number || is_write p.number) (pos p.moved) p.answer
 
 -- phases without an act or a byte left are passed over; where none is left the call ends
-abbrev settled_progress : Progress → Progress
+abbrev pub settled_progress : Progress → Progress
 settled_progress p = record p { phases = drop_used_up p.phases }
 
-abbrev passed_on : Progress → Files → After
+abbrev pub passed_on : Progress → Files → After
 passed_on p files = cond (length p.phases == 0) (ends (answer_of p) p files) (goes_on p files)
 
 abbrev pub settle : Progress → Files → After
@@ -169,11 +169,11 @@ pub record Moved : Type 0 where
   pub page : List ℕ
   pub after : After
 
-abbrev stays : List ℕ → After → Moved
+abbrev pub stays : List ℕ → After → Moved
 stays page after = record { page = page; after = after }
 
 -- a path ends at its first zero byte, and is refused where the last piece has brought none
-abbrev gather_path : Progress → List Range → Files → After
+abbrev pub gather_path : Progress → List Range → Files → After
 gather_path p ranges files =
   let path = before_zero p.buffer in
   cond (nat_lt (length path) (length p.buffer)) (settle (record p { buffer = path; phases = tail p.phases }) files)
@@ -185,20 +185,20 @@ abbrev vectors : ℕ → List ℕ → List Range
 vectors zero bytes = []
 vectors (suc n) bytes = record { address = number_of (take 8 bytes); len = number_of (take 8 (drop 8 bytes)) } ∷ vectors n (drop 16 bytes)
 
-abbrev gather_vectors : Progress → List Range → Files → After
+abbrev pub gather_vectors : Progress → List Range → Files → After
 gather_vectors p (r ∷ rs) files = goes_on (record p { phases = Gather (r ∷ rs) ∷ tail p.phases }) files
 gather_vectors p [] files =
   let all = vectors 16 p.buffer in
   cond (list_any (λ v. nat_le (2 ^ 63) v.len) all) (ends (refused EINVAL) p files)
   (settle (record p { buffer = []; phases = Stream (without_empty (cut_ranges most_moved all)) ∷ [] }) files)
 
-abbrev gathered : Progress → List Range → Files → List ℕ → Moved
+abbrev pub gathered : Progress → List Range → Files → List ℕ → Moved
 gathered p ranges files page =
   let piece = next_piece p in
   let q = record p { buffer = p.buffer ++ take piece.len (drop piece.off page) } in
   stays page (cond (has_path p.number) (gather_path q (advanced piece.len ranges) files) (gather_vectors q (advanced piece.len ranges) files))
 
-abbrev scattered : Progress → List Range → Files → List ℕ → Moved
+abbrev pub scattered : Progress → List Range → Files → List ℕ → Moved
 scattered p ranges files page =
   let piece = next_piece p in
   record { page = spliced page piece.off (take piece.len p.buffer);
@@ -209,24 +209,24 @@ nat_of (pos n) = n
 nat_of (negsuc n) = 0
 
 -- the progress after n bytes of a stream
-abbrev streamed_on : Progress → List Range → ℕ → Progress
+abbrev pub streamed_on : Progress → List Range → ℕ → Progress
 streamed_on p ranges n = record p { moved = p.moved + n; phases = Stream (advanced n ranges) ∷ tail p.phases }
 
-abbrev streamed_in : Progress → List Range → Files → ℕ → List ℕ → FileResult → Moved
+abbrev pub streamed_in : Progress → List Range → Files → ℕ → List ℕ → FileResult → Moved
 streamed_in p ranges files process page r =
   record { page = spliced page (next_piece p).off r.out; after = settle (streamed_on p ranges (length r.out)) r.files }
 
-abbrev streamed_out : Progress → List Range → List ℕ → FileResult → Moved
+abbrev pub streamed_out : Progress → List Range → List ℕ → FileResult → Moved
 streamed_out p ranges page r = stays page (settle (streamed_on p ranges (nat_of r.answer)) r.files)
 
-abbrev streamed : Progress → List Range → Files → ℕ → List ℕ → Moved
+abbrev pub streamed : Progress → List Range → Files → ℕ → List ℕ → Moved
 streamed p ranges files process page =
   let piece = next_piece p in
   cond (is_read p.number)
     (streamed_in p ranges files process page (file_step files process (stream_operation p) []))
     (streamed_out p ranges page (file_step files process (stream_operation p) (take piece.len (drop piece.off page))))
 
-abbrev moved_in_phase : Progress → Files → ℕ → List ℕ → Phase → Moved
+abbrev pub moved_in_phase : Progress → Files → ℕ → List ℕ → Phase → Moved
 moved_in_phase p files process page (Gather rs) = gathered p (without_empty rs) files page
 moved_in_phase p files process page Act = stays page (goes_on p files)
 moved_in_phase p files process page (Scatter rs) = scattered p (without_empty rs) files page
@@ -239,11 +239,11 @@ move_piece p files process page = moved_in_phase p files process page (get_or p.
 -- ---- a file step
 
 -- the scatter that follows the act has the bytes that the act built
-abbrev with_scatter : List ℕ → List Phase → List Phase
+abbrev pub with_scatter : List ℕ → List Phase → List Phase
 with_scatter out (Scatter (r ∷ rs) ∷ phases) = Scatter (without_empty (record r { len = length out } ∷ [])) ∷ phases
 with_scatter out phases = phases
 
-abbrev acted : Progress → FileResult → After
+abbrev pub acted : Progress → FileResult → After
 acted p r = elim r.answer [
   | negsuc n ↦ record { progress = p; ended = Some (negsuc n); files = r.files }
   | pos n ↦ cond (is_read p.number || is_write p.number)
@@ -251,14 +251,14 @@ acted p r = elim r.answer [
       (settle (record p { answer = pos n; buffer = r.out; phases = with_scatter r.out (tail p.phases) }) r.files) ]
 
 -- a stream that can move nothing more: it ends with the bytes moved, or with the error where none were
-abbrev stream_end : Progress → FileResult → After
+abbrev pub stream_end : Progress → FileResult → After
 stream_end p r = ends (cond (p.moved == 0) r.answer (pos p.moved)) p r.files
 
-abbrev file_step_in : Progress → Files → ℕ → Phase → After
+abbrev pub file_step_in : Progress → Files → ℕ → Phase → After
 file_step_in p files process Act = acted p (file_step files process (act_of p.number p.arguments) p.buffer)
 file_step_in p files process (Stream rs) = stream_end p (file_step files process (stream_operation p) [])
-file_step_in p files process (Gather rs) = goes_on p files
-file_step_in p files process (Scatter rs) = goes_on p files
+file_step_in p files process (Gather rs) = settle p files
+file_step_in p files process (Scatter rs) = settle p files
 
 -- the next step is a file step and is made
 abbrev pub take_file_step : Progress → Files → ℕ → After

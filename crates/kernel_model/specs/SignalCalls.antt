@@ -11,20 +11,20 @@ use Rattle.mck_word.specs.Words.{little_endian, number_of}
 use Rattle.mck_word.specs.declared.Access.TheVariants.{Read, Write}
 use Rattle.std.specs.Prelude.{Bool, List, None, Option, Some, cond, drop, false, nat_le, nat_lt, negsuc, not, pos, set, suc, take, zero, ℕ, ℤ, ◌&&◌, ◌++◌, ◌==◌, ◌||◌}
 
-abbrev positive : ℤ → Option ℕ
+abbrev pub positive : ℤ → Option ℕ
 positive (pos zero) = None
 positive (pos (suc n)) = Some (suc n)
 positive (negsuc n) = None
 
 -- 0, or a signal that may be sent
-abbrev checked_signal : ℤ → Option ℕ
+abbrev pub checked_signal : ℤ → Option ℕ
 checked_signal (pos n) = cond (n == 0 || may_be_sent n) (Some n) None
 checked_signal (negsuc n) = None
 
-abbrev send : ℕ → (ℕ → Node → Node) → Node → Node
+abbrev pub send : ℕ → (ℕ → Node → Node) → Node → Node
 send signal generate node = cond (signal == 0) node (generate signal node)
 
-abbrev kills : ℕ → ℕ → ℕ → View → View
+abbrev pub kills : ℕ → ℕ → ℕ → View → View
 kills t p signal v = cond (not (is_there v.node p)) (refuses t ESRCH v)
   (answers t (pos 0) (on_node (send signal (generate_for_process p)) v))
 
@@ -36,7 +36,7 @@ kill t pid signal v = elim (positive pid) [
 abbrev has_thread_in : Node → ℕ → ℕ → Bool
 has_thread_in node p tid = has_thread node tid && (thread_of node tid).process == p
 
-abbrev kills_thread : ℕ → ℕ → ℕ → ℕ → View → View
+abbrev pub kills_thread : ℕ → ℕ → ℕ → ℕ → View → View
 kills_thread t p tid signal v = cond (not (is_there v.node p) || not (has_thread_in v.node p tid)) (refuses t ESRCH v)
   (answers t (pos 0) (on_node (send signal (generate_for_thread tid)) v))
 
@@ -49,13 +49,13 @@ tgkill t pid tid signal v = elim (positive pid) [
 
 -- ---- the signal calls
 
-abbrev action_bytes : Action → List ℕ
+abbrev pub action_bytes : Action → List ℕ
 action_bytes a = little_endian 8 a.handler ++ little_endian 8 a.flags ++ little_endian 8 a.mask.0
 
-abbrev action_in : List ℕ → Action
+abbrev pub action_in : List ℕ → Action
 action_in bytes = record { handler = number_of (take 8 bytes); flags = number_of (take 8 (drop 8 bytes)); mask = record { 0 = as_mask (number_of (drop 16 bytes)) } }
 
-abbrev sets_action : ℕ → ℕ → ℕ → ℕ → View → View
+abbrev pub sets_action : ℕ → ℕ → ℕ → ℕ → View → View
 sets_action t signal act old v =
   let p = (thread_of v.node t).process in
   let before = action_of (process_of v.node p) signal in
@@ -64,17 +64,17 @@ sets_action t signal act old v =
   answers t (pos 0) (cond (act == 0) stored (on_node (λ node. drop_ignored p signal (with_action p signal new node)) stored))
 
 -- a pointer that is 0 is not asked for
-abbrev can_read : View → ℕ → ℕ → Bool
+abbrev pub can_read : View → ℕ → ℕ → Bool
 can_read v address n = address == 0 || may_access v.memory Read address n
 
-abbrev can_write : View → ℕ → ℕ → Bool
+abbrev pub can_write : View → ℕ → ℕ → Bool
 can_write v address n = address == 0 || may_access v.memory Write address n
 
-abbrev is_signal : ℤ → ℕ → Bool
+abbrev pub is_signal : ℤ → ℕ → Bool
 is_signal (pos n) act = nat_le 1 n && nat_le n 64 && not (not (act == 0) && (n == 9 || n == 19))
 is_signal (negsuc n) act = false
 
-abbrev nat_of : ℤ → ℕ
+abbrev pub nat_of : ℤ → ℕ
 nat_of (pos n) = n
 nat_of (negsuc n) = 0
 
@@ -84,7 +84,7 @@ sigaction t signal act old size v =
   (cond (not (can_read v act 24) || not (can_write v old 24)) (refuses t EFAULT v)
   (sets_action t (nat_of signal) act old v))
 
-abbrev new_mask : ℤ → ℕ → ℕ → ℕ
+abbrev pub new_mask : ℤ → ℕ → ℕ → ℕ
 new_mask how set mask = as_mask (elim how [
   | negsuc n ↦ mask
   | pos n ↦ cond (n == 0) (union mask set) (cond (n == 1) (minus mask set) set) ])
@@ -93,7 +93,7 @@ abbrev is_how : ℤ → Bool
 is_how (pos n) = nat_le n 2
 is_how (negsuc n) = false
 
-abbrev sets_mask : ℕ → ℤ → ℕ → ℕ → View → View
+abbrev pub sets_mask : ℕ → ℤ → ℕ → ℕ → View → View
 sets_mask t how address old v =
   let x = thread_of v.node t in
   let new = number_of (read_bytes v.memory address 8) in

@@ -111,11 +111,11 @@ raised t signal node =
 
 -- ---- delivering
 
-abbrev SA_RESTART : Action → Bool
+abbrev pub SA_RESTART : Action → Bool
 SA_RESTART a = has_bit 28 a.flags
-abbrev SA_NODEFER : Action → Bool
+abbrev pub SA_NODEFER : Action → Bool
 SA_NODEFER a = has_bit 30 a.flags
-abbrev SA_RESETHAND : Action → Bool
+abbrev pub SA_RESETHAND : Action → Bool
 SA_RESETHAND a = has_bit 31 a.flags
 
 abbrev pub frame_size : ℕ
@@ -133,14 +133,14 @@ abbrev pub frame_address : Regs → ℕ
 frame_address r = wrapped (reg r 2 + (2 ^ 64 - frame_size)) / 16 * 16
 
 -- a thread that stands back on an interrupted ecall goes on behind it with -EINTR, unless the action restarts
-abbrev interrupted_regs : Bool → Action → Regs → Regs
+abbrev pub interrupted_regs : Bool → Action → Regs → Regs
 interrupted_regs back a r = cond (back && not (SA_RESTART a)) (set_a0 (word_of (refused EINTR)) (set_pc (r.pc + 4) r)) r
 
-abbrev handler_regs : Action → ℕ → ℕ → Regs → Regs
+abbrev pub handler_regs : Action → ℕ → ℕ → Regs → Regs
 handler_regs a signal sp r =
   set_reg 1 trampoline (set_reg 2 sp (set_reg 10 signal (set_reg 11 0 (set_reg 12 0 (record r { pc = a.handler })))))
 
-abbrev handler_mask : Action → ℕ → ℕ → ℕ
+abbrev pub handler_mask : Action → ℕ → ℕ → ℕ
 handler_mask a signal mask = as_mask (union mask (cond (SA_NODEFER a) a.mask.0 (with_signal signal a.mask.0)))
 
 abbrev set_action : ℕ → Action → Process → Process
@@ -156,11 +156,11 @@ drop_ignored p signal node = cond (ignores (process_of node p) signal)
     threads = each (λ (y : Thread). cond (y.process == p) (record y { pending = without_signal signal y.pending }) y) node.threads })
   node
 
-abbrev after_reset : ℕ → ℕ → Action → Node → Node
+abbrev pub after_reset : ℕ → ℕ → Action → Node → Node
 after_reset p signal a node = cond (SA_RESETHAND a) (drop_ignored p signal (with_action p signal (record a { handler = 0 }) node)) node
 
 -- the handler is entered: the frame is stored, or the process is killed where it can't be
-abbrev enter_handler : ℕ → ℕ → Action → View → View
+abbrev pub enter_handler : ℕ → ℕ → Action → View → View
 enter_handler t signal a v =
   let x = thread_of v.node t in
   let r = interrupted_regs x.back a x.regs in
@@ -170,7 +170,7 @@ enter_handler t signal a v =
       (on_node (λ node. after_reset x.process signal a (change_thread t (λ (y : Thread). record y { regs = handler_regs a signal sp r; mask = handler_mask a signal y.mask; back = false }) node)) v))
     (on_node (λ node. change_process x.process (dies (Killed 11)) (change_thread t (λ (y : Thread). record y { regs = r; back = false }) node)) v)
 
-abbrev deliver_signal : ℕ → ℕ → View → View
+abbrev pub deliver_signal : ℕ → ℕ → View → View
 deliver_signal t signal v =
   let p = (thread_of v.node t).process in
   let a = action_of (process_of v.node p) signal in
@@ -190,10 +190,10 @@ abbrev words_in : ℕ → List ℕ → List ℕ
 words_in zero bytes = []
 words_in (suc n) bytes = number_of (take 8 bytes) ∷ words_in n (drop 8 bytes)
 
-abbrev restored : List ℕ → Regs
+abbrev pub restored : List ℕ → Regs
 restored bytes = record { pc = number_of (take 8 bytes); x = 0 ∷ words_in 31 (drop 8 bytes) }
 
-abbrev mask_in : List ℕ → ℕ
+abbrev pub mask_in : List ℕ → ℕ
 mask_in bytes = as_mask (number_of (take 8 (drop 256 bytes)))
 
 -- the registers and the mask come back from the frame at the stack pointer; where it can't be read, 11 is raised

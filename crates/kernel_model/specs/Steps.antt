@@ -40,7 +40,7 @@ answer_in (Active p) = None
 answer_in (Blocked p) = None
 answer_in (Over answer) = Some answer
 
-abbrev progress_in : CallStatus → Progress
+abbrev pub progress_in : CallStatus → Progress
 progress_in (Active p) = p
 progress_in (Blocked p) = p
 progress_in (Over answer) = no_progress
@@ -67,7 +67,7 @@ piece_has_right h p = allows_in (needed_access p) (at h.own.memory (next_piece p
 abbrev pub may_change : Node → ℕ → Bool
 may_change node t = has_thread node t && is_some (change_in (thread_of node t).does)
 
-abbrev some_called : Node → ℕ → Bool
+abbrev pub some_called : Node → ℕ → Bool
 some_called node p = some_row (λ t (x : Thread). x.process == p && is_called x.does) node.threads
 
 abbrev pub may_end : Node → ℕ → Bool
@@ -132,7 +132,7 @@ vm_finish p t h = vm_finish_of p t (change_in (thread_of h.node t).does) h
 abbrev pub set_status : ℕ → Bool → CallStatus → OneHere → OneHere
 set_status t marked status h = record h { own = record h.own { calls = put h.own.calls t (record { marked = marked; status = status }) } }
 
-abbrev one_trapped : ℕ → ℕ → Trapped → OneHere → OneHere
+abbrev pub one_trapped : ℕ → ℕ → Trapped → OneHere → OneHere
 one_trapped p t (Done v) h = with_view v h
 one_trapped p t (Forks v child stores) h =
   let m = stored_all v.stores h.own.memory in
@@ -174,11 +174,11 @@ one_piece p t h =
 unfoldable pub call_ended : ℕ → ℤ → OneHere → OneHere
 call_ended t answer h = set_status t (call_at h t).marked (Over answer) (with_node (set_files (given_back (progress_at h t) h.node.files) h.node) h)
 
-abbrev interrupted_as : Bool → ℕ → OneHere → OneHere
+abbrev pub interrupted_as : Bool → ℕ → OneHere → OneHere
 interrupted_as true t h = call_ended t (interrupted_answer (progress_at h t)) h
 interrupted_as false t h = with_node (called_back t h.node) h
 
-abbrev return_of : ℕ → Option ℤ → OneHere → OneHere
+abbrev pub return_of : ℕ → Option ℤ → OneHere → OneHere
 return_of t None h = h
 return_of t (Some answer) h = record (with_node (returns t answer h.node) h) { own = record h.own { calls = cut h.own.calls t } }
 

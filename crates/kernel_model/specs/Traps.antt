@@ -32,11 +32,11 @@ may_run node t =
   let x = thread_of node t in
   has_thread node t && ready_to_run x.does && is_living node x.process && not (is_deliverable node t)
 
-abbrev does_after : Stop → Does
+abbrev pub does_after : Stop → Does
 does_after On = Ready
 does_after stop = Stopped stop
 
-abbrev counted : ℕ → Outcome → Node → Node
+abbrev pub counted : ℕ → Outcome → Node → Node
 counted t e node =
   change_process (thread_of node t).process (λ (p : Process). record p { instructions = p.instructions + 1 })
     (change_thread t (λ (x : Thread). record x { regs = e.regs; does = does_after e.stop; back = false }) node)
@@ -61,28 +61,28 @@ pub data Trapped : Type 0 where
   Begins : Node → Progress → Trapped
   Changes : Node → Change → Trapped
 
-abbrev decided : ℕ → View → Decision → Trapped
+abbrev pub decided : ℕ → View → Decision → Trapped
 decided t v (Reply answer) = Done (answers t answer v)
 decided t v (Now change) = Changes v.node change
 decided t v (Round change) = Done (on_node (set_does t (InVm change)) v)
 
-abbrev arguments_of : Regs → List ℕ
+abbrev pub arguments_of : Regs → List ℕ
 arguments_of r = take 6 (drop 10 r.x)
 
-abbrev cloned : Cloned → Trapped
+abbrev pub cloned : Cloned → Trapped
 cloned (CallDone v) = Done v
 cloned (Born v child stores) = Forks v child stores
 
-abbrev planned : ℕ → ℕ → Regs → View → Plan → Trapped
+abbrev pub planned : ℕ → ℕ → Regs → View → Plan → Trapped
 planned t free r v Unknown = Done (answers t (refused ENOSYS) v)
 planned t free r v Local = cloned (local_call t free (reg r 17) (arguments_of r) v)
 planned t free r v Vm = decided t v (decide (process_of v.node (thread_of v.node t).process) v.memory free (reg r 17) (arguments_of r))
 planned t free r v (Delegated phases) = Begins v.node (starting (reg r 17) (arguments_of r) phases)
 
-abbrev past_ecall : ℕ → View → View
+abbrev pub past_ecall : ℕ → View → View
 past_ecall t v = on_node (change_thread t (λ (x : Thread). record x { regs = set_pc (x.regs.pc + 4) x.regs })) v
 
-abbrev trap_of_stop : ℕ → ℕ → View → Option Stop → Trapped
+abbrev pub trap_of_stop : ℕ → ℕ → View → Option Stop → Trapped
 trap_of_stop t free v None = Done v
 trap_of_stop t free v (Some Ecall) = let r = (thread_of v.node t).regs in planned t free r (past_ecall t v) (plan (reg r 17) (arguments_of r))
 trap_of_stop t free v (Some stop) = Done (on_node (raised t (signal_of_stop stop)) v)
@@ -105,7 +105,7 @@ abbrev pub is_error : ℕ → ℤ → Bool
 is_error errno (pos n) = false
 is_error errno (negsuc n) = n + 1 == errno
 
-abbrev returns_living : ℕ → ℤ → Node → Node
+abbrev pub returns_living : ℕ → ℤ → Node → Node
 returns_living t answer node =
   cond (is_error EINTR answer) (sent_back t node)
   (cond (is_error EPIPE answer) (generate_for_thread t 13 (answered t answer node))
@@ -121,11 +121,11 @@ finishes t answer node = cond (is_living node (thread_of node t).process) (answe
 
 -- ---- the wait for a child
 
-abbrev wait_of : Does → Option (ℤ × ℕ)
+abbrev pub wait_of : Does → Option (ℤ × ℕ)
 wait_of (InWait pid status) = Some (pid, status)
 wait_of _ = None
 
-abbrev may_end_wait_of : Node → ℕ → Option (ℤ × ℕ) → Bool
+abbrev pub may_end_wait_of : Node → ℕ → Option (ℤ × ℕ) → Bool
 may_end_wait_of node p None = false
 may_end_wait_of node p (Some w) = may_end_wait node p w.0
 
@@ -134,7 +134,7 @@ may_wait node t =
   let x = thread_of node t in
   has_thread node t && is_living node x.process && may_end_wait_of node x.process (wait_of x.does)
 
-abbrev waited_for : ℕ → View → Option (ℤ × ℕ) → View
+abbrev pub waited_for : ℕ → View → Option (ℤ × ℕ) → View
 waited_for t v None = v
 waited_for t v (Some w) = wait_over t w.0 w.1 v
 
@@ -156,20 +156,20 @@ called_back t node = sent_back t (without_sleeper t node)
 abbrev pub may_be_marked : Node → ℕ → Bool
 may_be_marked node t = is_deliverable node t || is_dying node (thread_of node t).process
 
-abbrev line_is : ℕ → ScriptLine → Bool
+abbrev pub line_is : ℕ → ScriptLine → Bool
 line_is k l = l.index == k
 
 abbrev pub line_of : Node → ℕ → Option ScriptLine
 line_of node k = find (line_is k) node.unsent
 
-abbrev line_may : Node → Option ScriptLine → Bool
+abbrev pub line_may : Node → Option ScriptLine → Bool
 line_may node None = false
 line_may node (Some l) = is_living node l.process && nat_le l.after (process_of node l.process).instructions
 
 abbrev pub may_script : Node → ℕ → Bool
 may_script node k = line_may node (line_of node k)
 
-abbrev sent : ℕ → Node → Option ScriptLine → Node
+abbrev pub sent : ℕ → Node → Option ScriptLine → Node
 sent k node None = node
 sent k node (Some l) = generate_for_process l.process l.signal (record node { unsent = filter (λ x. not (line_is k x)) node.unsent })
 
@@ -177,11 +177,11 @@ sent k node (Some l) = generate_for_process l.process l.signal (record node { un
 unfoldable pub script_sent : ℕ → Node → Node
 script_sent k node = sent k node (line_of node k)
 
-abbrev life_ended : Life → Life
+abbrev pub life_ended : Life → Life
 life_ended (Dying e) = Ended e
 life_ended life = life
 
-abbrev tells_parent : ℕ → Node → Node
+abbrev pub tells_parent : ℕ → Node → Node
 tells_parent parent node = cond (is_living node parent) (generate_for_process parent 17 node) node
 
 -- the process is Ended: it has no thread, no sleeper and no descriptor, and its parent gets signal 17

@@ -1,5 +1,5 @@
 // The rights of a page.
-ghost use Rattle.std.specs.Prelude.{⊤, ◌≡◌, [], ◌∷◌, codes};
+ghost use Rattle.std.specs.Prelude.{⊤, ◌≡◌, ◌==◌, [], ◌∷◌, codes, bit_and, option_map, Some, None, if◌then◌else◌};
 
 use bitflags::{Flag, Flags, bitflag_items};
 
@@ -34,5 +34,14 @@ impl Flags for Rights {
 
     fn from_bits_retain(bits: u8) -> Rights {
         Rights(bits)
+    }
+}
+
+impl Rights {
+    /// The flags of a number. None exactly where a bit without a name is set.
+    pub fn named(bits: u8) -> Option<Rights>
+        ensures { option_map (λ f. f.0) result ≡ (if bit_and bits 7 == bits then Some bits else None) }
+    {
+        Rights::from_bits(bits)
     }
 }

@@ -8,3 +8,4 @@ pub mod MapLaws
 pub mod Slots
 pub mod Numbers
 pub mod Identifiers
+pub mod EachLaws

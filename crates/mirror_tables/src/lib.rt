@@ -1,10 +1,14 @@
-//! The mirror of a process's mappings, as its proxy keeps it.
+//! The mirror of a process's mappings, as its proxy keeps it: rows that the lightweight kernel's table gave on first access.
+//!
+//! Promises: the mirror is a finite map from pages to frames and rights, beside `spare`, the number of rows that can be installed
+//! without memory, and each call is a word of maps on it (specs/Mirror). Only `reserve` takes memory. The mirror is this project's
+//! own, after the idea of proxy mappings that are made on first access.
 #![tactic(auto)]
 
 ghost use Rattle.std.specs.Prelude.{◌≡◌, ◌≤◌, ◌+◌, OnOk};
-ghost use Rattle.std.specs.FinMap as map;
-ghost use Rattle.key_rows.specs.Table.{key_from, without};
-ghost use Rattle.mirror_tables.specs.Mirror.{looked_up};
+ghost use Rattle.mck_word.specs.Maps.{at, put, no_rows};
+ghost use Rattle.key_rows.specs.Table.{key_from};
+ghost use Rattle.mirror_tables.specs.Mirror.{looked_up, without_range};
 
 use isa_model::allows;
 use key_rows::Rows;
@@ -13,6 +17,7 @@ use mck_word::{Access, Frame, NoMemory, PageRange};
 use std::alloc::Global;
 use std::marker::Model;
 
+/// The mirror, seen as the map from pages to their rows, beside the room for more.
 #[derive(Drop)]
 pub struct Mirror {
     rows: Rows<(Frame, Rights)>,
@@ -36,17 +41,18 @@ impl Model for Mirror {
 }
 
 impl Mirror {
+    /// No rows. Takes no memory.
     pub fn new(alloc: Global) -> Mirror
-        ensures { result ≡ record { map = map.empty; spare = 0 } }
+        ensures { result ≡ record { map = no_rows; spare = 0 } }
     {
         Mirror {
             rows: Rows::new(alloc),
         }
     }
 
-    /// The row of the page, where it has the right.
+    /// The row of the page: None exactly where no row has the page with the right.
     pub fn look(&self, page: u64, a: Access) -> Option<(Frame, Rights)>
-        ensures { result ≡ looked_up (map.get self.now.map page) a }
+        ensures { result ≡ looked_up (at self.now.map page) a }
     {
         match self.rows.get(page) {
             Some(row) => if allows(a, row.1) { Some(*row) } else { None },
@@ -54,36 +60,63 @@ impl Mirror {
         }
     }
 
-    /// Makes room for one row.
+    /// Makes room for one row. The contents stay, also where memory lacks.
     pub fn reserve(&mut self) -> Result<(), NoMemory>
         ensures same { self.new.map ≡ self.old.map }
+        ensures grows { self.old.spare ≤ self.new.spare }
         ensures room { OnOk result (1 ≤ self.new.spare) }
     {
-        match self.rows.reserve(1) {
-            Ok(()) => Ok(()),
-            Err(_) => Err(NoMemory),
-        }
+        self.rows.reserve(1)?;
+        Ok(())
     }
 
+    /// Puts the page's row in, in place of the one that it has.
     pub fn install(&mut self, page: u64, f: Frame, r: Rights)
         requires { 1 ≤ self.old.spare }
-        ensures row { self.new.map ≡ map.insert self.old.map page (f, r) }
+        ensures row { self.new.map ≡ put self.old.map page (f, r) }
         ensures takes { self.old.spare ≤ self.new.spare + 1 }
     {
         self.rows.put(page, (f, r));
     }
 
+    /// Drops the rows of the range's pages.
     pub fn drop_range(&mut self, r: PageRange)
-        ensures rest { self.new.map ≡ without self.old.map r.lo r.hi }
+        ensures rest { self.new.map ≡ without_range r self.old.map }
         ensures room { self.old.spare ≤ self.new.spare }
     {
         self.rows.drop_range(r.lo, r.hi);
     }
 
-    /// The least page with a row from there on.
+    /// The least page with a row from there on: None exactly where there is none.
     pub fn next(&self, from: u64) -> Option<u64>
         ensures { result ≡ key_from self.now.map from }
     {
         self.rows.next(from)
+    }
+}
+
+#[cfg(test)]
+mod tests {
+    use super::*;
+    use std::test::Fail;
+
+    #[test]
+    fn rows_by_page(rt: HostRuntime) -> Result<(), Fail> {
+        let mut mirror = Mirror::new(rt.alloc());
+        for (page, frame) in [(16, 3), (18, 4), (17, 5), (18, 6)] {
+            mirror.reserve()?;
+            mirror.install(page, Frame(frame), Rights::READ);
+        }
+        assert_eq!(rt;
+            mirror.look(18, Access::Read),
+            Some((Frame(6), Rights::READ))
+        );
+        assert_eq!(rt; mirror.look(18, Access::Write), None);
+        assert_eq!(rt; mirror.look(19, Access::Read), None);
+        mirror.drop_range(PageRange { lo: 17, hi: 18 });
+        assert_eq!(rt; mirror.next(0), Some(16));
+        assert_eq!(rt; mirror.next(17), Some(18));
+        assert_eq!(rt; mirror.next(19), None);
+        Ok(())
     }
 }

@@ -35,17 +35,20 @@ words_of (Unpark p q) = two_numbers (codes "unpark") p.0 q.0
 words_of (Finish p w) = two_numbers (codes "finish") p.0 w
 words_of (AckClear p) = one_number (codes "ack") p.0
 
-abbrev version : ℕ → Part
+abbrev pub version : ℕ → Part
 version n = Line (Text (codes "mctrace") ∷ Number n ∷ [])
 
-abbrev event_lines : List Event → List Part
+abbrev pub event_lines : List Event → List Part
 event_lines journal = map (λ e. Line (words_of e)) journal
 
+abbrev pub trace_parts : List Event → List Part
+trace_parts journal = version 2 ∷ event_lines journal
+
 abbrev pub trace : List Event → List ℕ
-trace journal = text_of (version 2 ∷ event_lines journal)
+trace journal = text_of (trace_parts journal)
 
 -- an event that version 1 has too
-abbrev is_of_first : Event → Bool
+abbrev pub is_of_first : Event → Bool
 is_of_first (Wait t) = false
 is_of_first (Fetch p r) = r == 0
 is_of_first _ = true

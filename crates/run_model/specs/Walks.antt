@@ -47,10 +47,10 @@ core_offer pair core =
 
 -- ---- the others
 
-abbrev all_workers : Pair → List ℕ
+abbrev pub all_workers : Pair → List ℕ
 all_workers pair = count_from 0 pair.workers
 
-abbrev thread_numbers : Pair → ℕ → List ℕ
+abbrev pub thread_numbers : Pair → ℕ → List ℕ
 thread_numbers pair p = filter (λ t. (thread_of pair.node t).process == p) (keys pair.node.threads)
 
 abbrev kernel_offer : Pair → ℕ → Option Event
@@ -77,14 +77,14 @@ offer pair ScriptActor = script_offer pair
 
 -- ---- whose turn it is
 
-abbrev actors_of_process : Pair → ℕ → List Actor
+abbrev pub actors_of_process : Pair → ℕ → List Actor
 actors_of_process pair p = Kernel (pid p) ∷ Linux (pid p) ∷ map (λ w. Worker (pid p) w) (all_workers pair)
 
 -- an Ended process offers nothing
 abbrev pub actors : Pair → List Actor
 actors pair = map (λ c. Core c) (count_from 0 pair.cores) ++ flat_map (actors_of_process pair) (keys pair.node.processes) ++ ScriptActor ∷ []
 
-abbrev is_same_actor : Actor → Actor → Bool
+abbrev pub is_same_actor : Actor → Actor → Bool
 is_same_actor (Core a) (Core b) = a == b
 is_same_actor (Kernel a) (Kernel b) = a.0 == b.0
 is_same_actor (Linux a) (Linux b) = a.0 == b.0
@@ -92,12 +92,12 @@ is_same_actor (Worker a v) (Worker b w) = a.0 == b.0 && v == w
 is_same_actor ScriptActor ScriptActor = true
 is_same_actor _ _ = false
 
-abbrev behind : Actor → List Actor → List Actor
+abbrev pub behind : Actor → List Actor → List Actor
 behind a [] = []
 behind a (b ∷ bs) = cond (is_same_actor a b) bs (behind a bs)
 
 -- the actors from the one behind the last that acted, round the list
-abbrev in_turn : Option Actor → List Actor → List Actor
+abbrev pub in_turn : Option Actor → List Actor → List Actor
 in_turn None all = all
 in_turn (Some a) all = behind a all ++ all
 
@@ -105,10 +105,10 @@ pub record Chosen : Type 0 where
   pub actor : Actor
   pub event : Event
 
-abbrev chosen_by : Pair → Actor → Option Chosen
+abbrev pub chosen_by : Pair → Actor → Option Chosen
 chosen_by pair a = elim (offer pair a) [ None ↦ None | Some e ↦ Some (record { actor = a; event = e }) ]
 
-abbrev first_chosen : Pair → List Actor → Option Chosen
+abbrev pub first_chosen : Pair → List Actor → Option Chosen
 first_chosen pair [] = None
 first_chosen pair (a ∷ as_) = let rest = first_chosen pair as_ in elim (chosen_by pair a) [ None ↦ rest | Some c ↦ Some c ]
 
@@ -130,11 +130,11 @@ pub record Walker : Type 0 where
   pub drawn : ℕ
 
 -- `words` are the words of the generator of the order, or none for order 0
-abbrev next_choice : Option (ℕ → ℕ) → Walker → Option Chosen
+abbrev pub next_choice : Option (ℕ → ℕ) → Walker → Option Chosen
 next_choice None w = next_in_turn w.last w.pair
 next_choice (Some words) w = next_by_word (words w.drawn) w.pair
 
-abbrev moved : Chosen → Walker → Walker
+abbrev pub moved : Chosen → Walker → Walker
 moved c w = record { pair = after w.pair c.event; last = Some c.actor; drawn = w.drawn + 1 }
 
 -- the events of a walk of at most n steps

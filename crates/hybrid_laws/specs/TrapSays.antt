@@ -1,0 +1,79 @@
+-- What a trap that begins a call, changes the memory or makes a process says of it.
+use Rattle.file_model.specs.Errno.{EAGAIN, ENOMEM}
+use Rattle.isa_model.specs.Registers.{reg}
+use Rattle.isa_model.specs.declared.stops.Stop.{Stop}
+use Rattle.isa_model.specs.declared.stops.Stop.TheVariants.{Break, Ecall, Illegal, Misaligned, On, Fault as StopFault}
+use Rattle.kernel_model.specs.Calls.{local_call, one_of_calls}
+use Rattle.kernel_model.specs.CloneCalls.{CallDone, are_fork_flags, clone, clone_or_fork, forks}
+use Rattle.kernel_model.specs.LocalCalls.{refuses}
+use Rattle.kernel_model.specs.MemoryCalls.{Reply as DecidedReply, Round as DecidedRound, Decision, Now, decide}
+use Rattle.kernel_model.specs.Nodes.{Node, most_processes, process_of, stop_in, thread_of}
+use Rattle.kernel_model.specs.Plans.{Delegated, Local, Plan, Unknown, Vm, plan, Phase as CallPhase}
+use Rattle.kernel_model.specs.Progress.{starting}
+use Rattle.kernel_model.specs.Signals.{View}
+use Rattle.kernel_model.specs.Traps.{Begins, Changes, Done, Forks, Trapped, arguments_of, cloned, decided, past_ecall, planned, trap, trap_of_stop}
+use Rattle.mck_word.specs.Maps.{change, count}
+use Rattle.mck_word.specs.declared.Regs.{Regs}
+use Rattle.std.proofs.Common.{refl}
+use Rattle.std.specs.Prelude.{Bool, List, None, Option, Some, cond, false, get_or, nat_le, nat_lt, true, ℕ, ◌==◌, ◌≡◌}
+
+abbrev pub call_regs : ℕ → Node → Regs
+call_regs t node = (thread_of node t).regs
+
+-- a call that begins has the call's plan; a change made at once was decided so
+abbrev pub TrappedSays : ℕ → ℕ → View → Trapped → Type 0
+TrappedSays t frames v (Done w) = Unit {0}
+TrappedSays t frames v (Forks w child stores) = (child ≡ v.node.next_number) × (nat_lt frames (count v.memory) ≡ false)
+TrappedSays t frames v (Begins new progress) =
+  (new ≡ (past_ecall t v).node) × (phases : List CallPhase) × (plan (reg (call_regs t v.node) 17) (arguments_of (call_regs t v.node)) ≡ Delegated phases) × (progress ≡ starting (reg (call_regs t v.node) 17) (arguments_of (call_regs t v.node)) phases)
+TrappedSays t frames v (Changes new change) =
+  (new ≡ (past_ecall t v).node) × (decide (process_of new (thread_of new t).process) v.memory frames (reg (call_regs t v.node) 17) (arguments_of (call_regs t v.node)) ≡ Now change)
+
+module _ (t frames : ℕ) (v : View) where
+  abbrev r : Regs
+  r = call_regs t v.node
+
+  abbrev behind : View
+  behind = past_ecall t v
+
+  fork-says : (flags stack parent_tid tls child_tid : ℕ) → TrappedSays t frames v (cloned (clone_or_fork t frames flags stack parent_tid tls child_tid behind))
+  fork-says flags stack parent_tid tls child_tid = go (are_fork_flags flags) (nat_le most_processes (count v.node.processes)) (nat_lt frames (count v.memory)) refl
+    where
+      go : (b c d : Bool) → nat_lt frames (count v.memory) ≡ d → TrappedSays t frames v (cloned (cond b (cond c (CallDone (refuses t EAGAIN behind)) (cond d (CallDone (refuses t ENOMEM behind)) (forks t flags stack parent_tid tls child_tid behind))) (CallDone (clone t flags stack parent_tid tls child_tid behind))))
+      go true true d e = tt
+      go true false true e = tt
+      go true false false e = (refl, e)
+      go false c d e = tt
+
+  local-says : (number : ℕ) (arguments : List ℕ) → TrappedSays t frames v (cloned (local_call t frames number arguments behind))
+  unfolding local_call
+  local-says number arguments = go (number == 220) (fork-says (get_or arguments 0 0) (get_or arguments 1 0) (get_or arguments 2 0) (get_or arguments 3 0) (get_or arguments 4 0))
+    where
+      go : (b : Bool) → TrappedSays t frames v (cloned (clone_or_fork t frames (get_or arguments 0 0) (get_or arguments 1 0) (get_or arguments 2 0) (get_or arguments 3 0) (get_or arguments 4 0) behind))
+        → TrappedSays t frames v (cloned (cond b (clone_or_fork t frames (get_or arguments 0 0) (get_or arguments 1 0) (get_or arguments 2 0) (get_or arguments 3 0) (get_or arguments 4 0) behind) (CallDone (one_of_calls t number (λ k. get_or arguments k 0) behind))))
+      go true k = k
+      go false k = tt
+
+  decided-says : (d : Decision) → decide (process_of behind.node (thread_of behind.node t).process) v.memory frames (reg r 17) (arguments_of r) ≡ d → TrappedSays t frames v (decided t behind d)
+  decided-says (DecidedReply answer) e = tt
+  decided-says (Now change) e = (refl, e)
+  decided-says (DecidedRound change) e = tt
+
+  planned-says : (is : Plan) → plan (reg r 17) (arguments_of r) ≡ is → TrappedSays t frames v (planned t frames r behind is)
+  planned-says Unknown e = tt
+  planned-says Local e = local-says (reg r 17) (arguments_of r)
+  planned-says Vm e = decided-says (decide (process_of behind.node (thread_of behind.node t).process) v.memory frames (reg r 17) (arguments_of r)) refl
+  planned-says (Delegated phases) e = (refl, phases, e, refl)
+
+  pub trap-says : TrappedSays t frames v (trap t frames v)
+  unfolding trap
+  trap-says = go (stop_in (thread_of v.node t).does)
+    where
+      go : (o : Option Stop) → TrappedSays t frames v (trap_of_stop t frames v o)
+      go None = tt
+      go (Some Ecall) = planned-says (plan (reg r 17) (arguments_of r)) refl
+      go (Some On) = tt
+      go (Some Break) = tt
+      go (Some Illegal) = tt
+      go (Some Misaligned) = tt
+      go (Some (StopFault l)) = tt

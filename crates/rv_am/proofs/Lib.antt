@@ -1,0 +1,3 @@
+pub mod FoundRows
+pub mod WordFields
+pub mod HighProducts
