@@ -1,8 +1,8 @@
 -- Tests of mapped lists.
-use Rattle.std.proofs.Common.{◌≡◌, ℕ, ◌==◌, ◌||◌, ◌&&◌, List, [], ◌∷◌, map, Bool, true, false, refl, sym, ◌∙◌, ap, subst, bytes_eq, arith}
+use Rattle.std.proofs.Common.{◌≡◌, ℕ, ◌==◌, ◌||◌, ◌&&◌, List, [], ◌∷◌, map, Bool, true, false, refl, sym, ◌∙◌, ap, bytes_eq, arith}
 use Rattle.std.proofs.lemmas.Bool.Decides.{nat_tests}
-use Rattle.std.specs.List.{list_any, slice_split, onto_first, starts_with}
-use Rattle.job_text.specs.Paths.{names_in, goes_through, ends_name}
+use Rattle.std.specs.List.{list_any, onto_first, starts_with}
+use Rattle.job_text.specs.Paths.{names_in, goes_through}
 
 pub list_any-map : {X Y : Type 0} (p : Y → Bool) (h : X → Y) (xs : List X) → list_any p (map h xs) ≡ list_any (λ x. p (h x)) xs
 list_any-map p h [] = refl

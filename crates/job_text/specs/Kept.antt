@@ -1,10 +1,11 @@
 -- What each job that reads keeps.
-use Rattle.std.specs.Prelude.{◌≡◌, ◌≢◌, ℕ, ◌+◌, ◌<◌, ◌≤◌, List, [], length, All, AllPairs, sum_by, false, true, IsUtf8}
+use Rattle.std.specs.Prelude.{◌≡◌, ◌≢◌, ℕ, ◌+◌, ◌<◌, ◌≤◌, List, [], length, All, AllPairs, sum_by, false, true, IsUtf8, unwrap_or}
 use Rattle.job_model.specs.declared.job.Job.{Job}
 use Rattle.job_model.specs.declared.job.GuestLine.{GuestLine}
 use Rattle.job_model.specs.declared.job.SignalLine.{SignalLine}
 use Rattle.job_model.specs.declared.job.FileLine.{FileLine}
 use Rattle.job_model.specs.declared.job.InputLine.{InputLine}
+use Rattle.job_text.specs.declared.draft.Draft.{Draft}
 use Rattle.job_text.specs.Paths.{is_path, meets}
 
 -- bytes 0x21 to 0x7e, which are characters of one byte each
@@ -66,3 +67,20 @@ pub record IsJob (job : Job) : Type 0 where
   pub apart : AreApart job.files
   pub inputs : All (IsInputLine (length job.guests)) job.inputs
   pub once : StandOnce job.inputs
+
+-- what the lines so far keep
+pub record IsDraft (d : Draft) : Type 0 where
+  pub frames : IsWithin 1 16000 (unwrap_or d.frames 1)
+  pub cores : IsWithin 1 8 (unwrap_or d.cores 1)
+  pub workers : IsWithin 1 4 (unwrap_or d.workers 2)
+  pub rings : IsWithin 1 8 (unwrap_or d.rings 1)
+  pub limit : IsWithin 1 4000000 (unwrap_or d.limit 1000000)
+  pub guests : length d.guests ≤ 16
+  pub guest_lines : All IsGuestLine d.guests
+  pub signals : length d.signals ≤ 64
+  pub signal_lines : All (IsSignalLine (length d.guests)) d.signals
+  pub files : length d.files ≤ 64
+  pub file_lines : All IsFileLine d.files
+  pub apart : AreApart d.files
+  pub inputs : All (IsInputLine (length d.guests)) d.inputs
+  pub once : StandOnce d.inputs

@@ -1,5 +1,6 @@
 pub mod Kept
 pub mod Lines
+pub mod Order
 pub mod Paths
 pub mod Reading
 pub mod Words

@@ -1,10 +1,8 @@
 -- The checks of each kind of line, in their order, and what the line adds to those before it.
-use Rattle.std.specs.Prelude.{ℕ, ◌+◌, ◌-◌, ◌==◌, ◌&&◌, ◌||◌, not, nat_lt, nat_le, bytes_eq, codes, List, [], ◌∷◌, ◌++◌, length, drop, Bool, true, false, Option, Some, None, is_some, Result, Ok, Err, if◌then◌else◌}
+use Rattle.std.specs.Prelude.{ℕ, ◌-◌, ◌==◌, ◌&&◌, ◌||◌, not, nat_lt, nat_le, bytes_eq, codes, List, [], ◌∷◌, ◌++◌, length, drop, Bool, true, false, Option, Some, None, is_some, Result, Ok, Err, if◌then◌else◌}
 use Rattle.std.specs.List.{list_any}
 use Rattle.mck_word.specs.Numbers.{number_of}
 use Rattle.job_model.specs.declared.job.GuestLine.{GuestLine}
-use Rattle.job_model.specs.declared.job.SignalLine.{SignalLine}
-use Rattle.job_model.specs.declared.job.FileLine.{FileLine}
 use Rattle.job_model.specs.declared.job.InputLine.{InputLine}
 use Rattle.job_text.specs.declared.draft.Draft.{Draft}
 use Rattle.job_text.specs.declared.fault.Why.{Why}

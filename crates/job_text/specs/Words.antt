@@ -1,5 +1,5 @@
 -- The words of a line, and the numbers among them.
-use Rattle.std.specs.Prelude.{ℕ, ◌==◌, ◌&&◌, not, nat_le, List, [], ◌∷◌, Bool, true, false, length, slice_get, unwrap_or}
+use Rattle.std.specs.Prelude.{ℕ, ◌==◌, ◌&&◌, not, nat_le, List, [], ◌∷◌, Bool, false, length, slice_get, unwrap_or}
 use Rattle.std.specs.List.{list_any, list_all, slice_split}
 
 -- what stands between the spaces, empty words among them

@@ -1,7 +1,7 @@
 // The lines of a job, and the job.
 ghost use Rattle.std.specs.Prelude.{◌≡◌, ◌≤◌, [], ◌∷◌, ◌++◌, false, true, All, IfOk, IfErr, IfSome, IfNone, OnOk, Ok, length};
 ghost use Rattle.std.specs.List.{list_any, slice_split};
-ghost use Rattle.job_text.specs.Kept.{IsJob};
+ghost use Rattle.job_text.specs.Kept.{IsDraft, IsJob};
 ghost use Rattle.job_text.specs.Reading.{add_line, add_words, LineGives, is_odd_byte, is_skipped, is_line_feed, at_line, read_lines, no_lines, job_of, ReadGives, ReadFails};
 
 use crate::checks::add_key;
@@ -79,7 +79,8 @@ fn cut_line(bytes: &[u8]) -> Option<(&[u8], &[u8])>
 }
 
 fn read_lines(alloc: Global, bytes: &[u8]) -> Result<Draft, JobError>
-    ensures { ReadGives result (read_lines 1 no_lines (slice_split is_line_feed bytes.now)) }
+    ensures value { ReadGives result (read_lines 1 no_lines (slice_split is_line_feed bytes.now)) }
+    ensures kept { IfOk result IsDraft }
 {
     let mut draft = Draft {
         frames: None,

@@ -1,4 +1,4 @@
-use Rattle.std.proofs.Common.{◌≡◌, ◌∙◌, ◌+◌, ◌==◌, sym, ap}
+use Rattle.std.proofs.Common.{◌∙◌, ◌+◌, ◌==◌, sym, ap}
 use Rattle.std.proofs.lemmas.List.Splits.{length-slice_split}
 use Rattle.job_text.proofs.paths.count_names.Goals as goal
 

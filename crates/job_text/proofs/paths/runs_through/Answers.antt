@@ -1,4 +1,4 @@
-use Rattle.std.proofs.Common.{◌≡◌, ◌∙◌, ap, drop}
+use Rattle.std.proofs.Common.{◌∙◌, ap, drop}
 use Rattle.job_text.specs.Paths.{goes_through}
 use Rattle.job_text.proofs.Parts.{through_names}
 use Rattle.job_text.proofs.paths.runs_through.Goals as goal
