@@ -1,1 +1,5 @@
+pub mod Cuts
+pub mod Entered
+pub mod Entries
 pub mod Lines
+pub mod NumberTexts

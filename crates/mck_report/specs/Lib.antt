@@ -1,2 +1,3 @@
 pub mod Writing
 pub mod Grow
+pub mod Reading
