@@ -35,3 +35,4 @@ pub mod Fetch
 pub mod AckClear
 pub mod Park
 pub mod Unpark
+pub mod Totals
