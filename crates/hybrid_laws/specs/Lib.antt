@@ -36,3 +36,6 @@ pub mod AckClear
 pub mod Park
 pub mod Unpark
 pub mod Totals
+pub mod WholePair
+pub mod WholeTurns
+pub mod WholeSteps
