@@ -39,3 +39,10 @@ pub mod Totals
 pub mod WholePair
 pub mod WholeTurns
 pub mod WholeSteps
+pub mod WholeSilent
+pub mod WholeAssign
+pub mod WholePin
+pub mod WholeUnpin
+pub mod WholeAckClear
+pub mod WholeFinish
+pub mod WholeMiss
