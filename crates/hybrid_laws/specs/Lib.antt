@@ -46,3 +46,5 @@ pub mod WholeUnpin
 pub mod WholeAckClear
 pub mod WholeFinish
 pub mod WholeMiss
+pub mod WholeFetch
+pub mod WholeUnpark
