@@ -10,7 +10,7 @@ use Rattle.hybrid_laws.specs.WholeSteps.{SimulatedPair, simulated-pair}
 use Rattle.hybrid_laws.specs.WholeTurns.{holders-same, stated-other, turns-after}
 use Rattle.hybrid_model.specs.Coherence.{OfProcess}
 use Rattle.hybrid_model.specs.Events.{after, may, may_here, unpark_here}
-use Rattle.hybrid_model.specs.Globals.{Coherent, TurnsHold, description_held, ring_number, waits_or_held}
+use Rattle.hybrid_model.specs.Globals.{Coherent, TurnsHold, description_held, ring_number, waits_or_held, CallsHold, StatusHolds}
 use Rattle.hybrid_model.specs.Linux.{is_turn_for, may_take_turn, pipe_end, turns_after_unpark, unpark, with_turn}
 use Rattle.hybrid_model.specs.Pairs.{Here, Pair, here}
 use Rattle.hybrid_model.specs.Shown.{has_empty, reply_code, status_in, status_of}
@@ -18,13 +18,14 @@ use Rattle.hybrid_model.specs.Sides.{Side, Turn, call_in, service_of, state_in, 
 use Rattle.hybrid_model.specs.Tallies.{Reads, with_at}
 use Rattle.ikc_ring.specs.declared.Call.{Call}
 use Rattle.kernel_model.specs.Nodes.{Thread, is_there, no_thread, thread_of}
+use Rattle.kernel_model.specs.OneKernel.{Active, Blocked}
 use Rattle.mck_word.specs.MapLaws.{at-put}
 use Rattle.mck_word.specs.Maps.{at}
 use Rattle.mck_word.specs.declared.Pid.{Pid}
 use Rattle.mck_word.specs.declared.Req.{Req}
 use Rattle.request_book.specs.declared.ReqState.{ReqState}
 use Rattle.request_book.specs.declared.ReqState.TheVariants.{Parked, Waiting}
-use Rattle.std.proofs.Common.{ap, arith, refl, sym, ◌∙◌}
+use Rattle.std.proofs.Common.{ap, arith, refl, sym, ◌∙◌, subst}
 use Rattle.std.proofs.lemmas.Bool.Decides.{nat_tests}
 use Rattle.std.specs.Prelude.{Bool, None, Option, Some, [], cond, false, if◌then◌else◌, true, unwrap_or, ℕ, ◌++◌, ◌+◌, ◌==◌, ◌∷◌, ◌≡◌}
 
@@ -96,11 +97,27 @@ module _ (pair : Pair) (c : Coherent pair) (q : Pid) (n : Req) (e : may pair (Ev
       go false f = refl
       go true f = let y : x ≡ n.0 = grind (arith, nat_tests, f) in let is = m.is in rw (y, is) refl
 
+  calls-now : CallsHold side'
+  calls-now t x f = go (x.request == n.0) refl (c.calls p t x f)
+    where
+      before : status_of h.side n.0 ≡ Blocked (service_of h.side.linux.services n.0).progress
+      before = let is = m.is in rw is refl
+      now : status_of side' n.0 ≡ Active (service_of h.side.linux.services n.0).progress
+      now = ap (λ o. status_in (state_in o) (call_in o) (service_of h.side.linux.services n.0) (has_empty (at h.side.linux.workers) n.0 h.side.to_linux) (reply_code n.0 h.side.to_lwk)) (rows-now n.0) ∙ (let b : (n.0 == n.0) ≡ true = grind (arith, nat_tests) in rw b refl)
+      other : (x.request == n.0) ≡ false → status_of side' x.request ≡ status_of h.side x.request
+      other g = ap (λ o. status_in (state_in o) (call_in o) (service_of h.side.linux.services x.request) (has_empty (at h.side.linux.workers) x.request h.side.to_linux) (reply_code x.request h.side.to_lwk)) (stated-other Waiting n.0 h.side.book.rows x.request g)
+      go : (b : Bool) → (x.request == n.0) ≡ b → StatusHolds (status_of h.side x.request) → StatusHolds (status_of side' x.request)
+      go false g u = subst StatusHolds (sym (other g)) u
+      go true g u =
+        let y : x.request ≡ n.0 = grind (arith, nat_tests, g) in
+        subst (λ (j : ℕ). StatusHolds (status_of side' j)) (sym y) (subst StatusHolds (sym now) (subst StatusHolds before (subst (λ (j : ℕ). StatusHolds (status_of h.side j)) y u)))
+
   pub coherent_unpark : Coherent (after pair (Events.Unpark q n))
   unfolding unpark_here unpark turns_after_unpark
   coherent_unpark = coherent-after pair c p there side' pair.node.files pair.frames (turns_after_unpark p h.side.linux h.node.files h.turns n.0) (keeps_unpark p h (ring_number pair) k n allowed) refl refl refl
     (turns-of (may_take_turn p h.side.linux h.node.files h.turns n.0))
     (held-after pair c p there side' pair.node.files pair.frames (turns_after_unpark p h.side.linux h.node.files h.turns n.0) (λ d. ap (λ j. (description_of pair.node.files d).calls + j) (sym (holders-same side' h.side refl (λ t x f. held-same x.request) d))))
+    c.descriptions calls-now
 
   thread-own : (thread_of pair.node m.call.tid.0).process ≡ p
   thread-own = let t = the-thread p h.side h.node h.workers (ring_number pair) k n.0 Parked m.call m.is refl in ap (λ (o : Option Thread). (unwrap_or o no_thread).process) t.1 ∙ t.2
