@@ -54,3 +54,16 @@ pub mod PostRequest
 pub mod TrapCall
 pub mod TrapSays
 pub mod TrapBegins
+pub mod Totals
+pub mod WholePair
+pub mod WholeTurns
+pub mod WholeSteps
+pub mod WholeSilent
+pub mod WholeAssign
+pub mod WholePin
+pub mod WholeUnpin
+pub mod WholeAckClear
+pub mod WholeFinish
+pub mod WholeMiss
+pub mod WholeFetch
+pub mod WholeUnpark
