@@ -47,3 +47,5 @@ pub mod PostRequest
 pub mod TrapCall
 pub mod TrapSays
 pub mod TrapBegins
+pub mod Lookups
+pub mod IntakeReply
