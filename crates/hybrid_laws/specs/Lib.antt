@@ -49,3 +49,5 @@ pub mod TrapSays
 pub mod TrapBegins
 pub mod Lookups
 pub mod IntakeReply
+pub mod IntakeFault
+pub mod AnswerKeeps
