@@ -113,12 +113,12 @@ module _ (p : ℕ) (side : Side) (node : Node) (workers : ℕ) (ring : ℕ → �
       marked = Marked-post (at side.linux.services) (at side.lwk.callers) r (Answer w n.0 side.lwk.begun o) side.to_linux (λ q. refl) k.marked })
 
 module _ (p : ℕ) (q : Pid) (w : ℕ) (h : Here) (m : may_here (Events.Answer q w) h ≡ true) where
-  pub answers : MayAnswer h.side w
-  answers = may-answer h.side w (both (nat_lt w h.workers) (may_answer h.side w) m).1
+  pub may_be_answered : MayAnswer h.side w
+  may_be_answered = may-answer h.side w (both (nat_lt w h.workers) (may_answer h.side w) m).1
 
   pub keeps_answer : (workers : ℕ) (ring : ℕ → ℕ) → OfProcess p h.side h.node workers ring → OfProcess p (after_here (Events.Answer q w) p h).side (after_here (Events.Answer q w) p h).node workers ring
   keeps_answer workers ring k =
-    let x = keeps_post_answer p h.side h.node workers ring k w (ring_of h (thread_served h.side w)) answers in
+    let x = keeps_post_answer p h.side h.node workers ring k w (ring_of h (thread_served h.side w)) may_be_answered in
     record { covered = x.covered; rounded = x.rounded; owned = x.owned; served = x.served; answered = x.answered; calls = x.calls; asked = x.asked; interrupts = x.interrupts; directions = x.directions; messages = x.messages; marked = x.marked }
 
   pub others_answer : (other : ℕ) (side : Side) (workers : ℕ) (ring : ℕ → ℕ) → OfProcess other side h.node workers ring → OfProcess other side (after_here (Events.Answer q w) p h).node workers ring

@@ -34,24 +34,25 @@ Answered-pop rows callers next m bs none a = record {
   replies = λ q. omega (arith, a.replies q);
   fresh = a.fresh; not_replied = a.not_replied }
 
-module _ (worker_count : ℕ) (workers : Reads ℕ) (rows : Reads (ReqState × Call)) (services : Reads Service) (pins : Reads Pin) (waiting : List ℕ) (noted : Reads Noted) (rings : List (List Msg)) (bs : List Msg) (w page : ℕ) (a : Access) (s : Served worker_count workers rows services pins waiting noted rings (Fault w page a ∷ bs)) where
-  at-most : (o : Option ℕ) → faulting rows o ≤ 1
-  at-most None = omega arith
-  at-most (Some q) = go (state_at rows q)
-    where
-      go : (x : ReqState) → is_faulted x ≤ 1
-      go Posted = omega arith
-      go Waiting = omega arith
-      go Held = omega arith
-      go Parked = omega arith
-      go Faulted = omega arith
-      go Ended = omega arith
-      go Replied = omega arith
+-- a worker's request is Faulted or not
+pub at-most : (rows : Reads (ReqState × Call)) (o : Option ℕ) → faulting rows o ≤ 1
+at-most rows None = omega arith
+at-most rows (Some q) = go (state_at rows q)
+  where
+    go : (x : ReqState) → is_faulted x ≤ 1
+    go Posted = omega arith
+    go Waiting = omega arith
+    go Held = omega arith
+    go Parked = omega arith
+    go Faulted = omega arith
+    go Ended = omega arith
+    go Replied = omega arith
 
+module _ (worker_count : ℕ) (workers : Reads ℕ) (rows : Reads (ReqState × Call)) (services : Reads Service) (pins : Reads Pin) (waiting : List ℕ) (noted : Reads Noted) (rings : List (List Msg)) (bs : List Msg) (w page : ℕ) (a : Access) (s : Served worker_count workers rows services pins waiting noted rings (Fault w page a ∷ bs)) where
   pub served_fault : Served worker_count workers rows services pins waiting (with_at noted w (Some (page, a))) rings bs
   served_fault = record {
     worker_below = s.worker_below; requests = s.requests; waits = s.waits; known = s.known; workers_hold = s.workers_hold; held_by = s.held_by;
-    faults = λ v. (let f = s.faults v in let m = at-most (workers v) in grind (arith, nat_tests, f, m));
+    faults = λ v. (let f = s.faults v in let m = at-most rows (workers v) in grind (arith, nat_tests, f, m));
     fault_for = s.fault_for.1;
     noted_for = λ v n e. note (v == w) v n refl e;
     answer_for = s.answer_for; pins_serve = s.pins_serve }

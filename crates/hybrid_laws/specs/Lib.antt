@@ -51,3 +51,4 @@ pub mod Lookups
 pub mod IntakeReply
 pub mod IntakeFault
 pub mod AnswerKeeps
+pub mod AnswerShown
