@@ -52,3 +52,5 @@ pub mod IntakeReply
 pub mod IntakeFault
 pub mod AnswerKeeps
 pub mod AnswerShown
+pub mod Dropping
+pub mod ReapEvent
