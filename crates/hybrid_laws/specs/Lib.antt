@@ -54,3 +54,4 @@ pub mod AnswerKeeps
 pub mod AnswerShown
 pub mod Dropping
 pub mod ReapEvent
+pub mod BeginVm
