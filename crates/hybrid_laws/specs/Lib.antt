@@ -67,3 +67,11 @@ pub mod WholeFinish
 pub mod WholeMiss
 pub mod WholeFetch
 pub mod WholeUnpark
+pub mod Lookups
+pub mod IntakeReply
+pub mod IntakeFault
+pub mod AnswerKeeps
+pub mod AnswerShown
+pub mod Dropping
+pub mod ReapEvent
+pub mod BeginVm

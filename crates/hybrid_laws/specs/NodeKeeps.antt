@@ -12,6 +12,7 @@ use Rattle.kernel_model.specs.Pages.{page_end, page_number, range}
 use Rattle.kernel_model.specs.declared.Change.{Change}
 use Rattle.kernel_model.specs.declared.Change.TheVariants.{Brk, Protect, Unmap, Map as ChangeMap}
 use Rattle.kernel_model.specs.declared.Does.{Does}
+use Rattle.kernel_model.specs.declared.Does.TheVariants.{Asleep, Called, InVm, InWait, Ready, Stopped}
 use Rattle.mck_word.specs.Maps.{at}
 use Rattle.request_book.specs.declared.ReqState.{ReqState}
 use Rattle.std.proofs.Common.{arith, refl, subst, sym, ◌∙◌, ap}
@@ -157,14 +158,31 @@ module _ (p : ℕ) (free : ℕ → Bool) (threads threads' : Reads Thread)
           let s : z.0 ≡ y = cc in
           absurd (let t = sym (ap is_called z.4 ∙ x.4) ∙ ap (λ (w : Thread). is_called w.does) s ∙ f in grind (arith, t))
 
-  pub owned-stays : (process process' : Process) → process'.heap_base ≡ process.heap_base → (round : Option Round) (changing : Option ℕ) → Owned process threads p round changing → Owned process' threads' p round changing
-  owned-stays process process' heap None None h = tt
-  owned-stays process process' heap None (Some t) h = absurd h
-  owned-stays process process' heap (Some r) None h = absurd h
-  owned-stays process process' heap (Some r) (Some t) h =
+-- the round's thread stays, where no free thread of the process is InVm
+module _ (p : ℕ) (free : ℕ → Bool) (threads threads' : Reads Thread)
+  (idle : (u : ℕ) (x : Thread) → free u ≡ true → threads u ≡ Some x → x.process ≡ p → change_in x.does ≡ None)
+  (keeps : (u : ℕ) → ThreadKeeps p (free u) (threads u) (threads' u)) (process process' : Process) (heap : process'.heap_base ≡ process.heap_base) where
+  pub owned-keeps : (round : Option Round) (changing : Option ℕ) → Owned process threads p round changing → Owned process' threads' p round changing
+  owned-keeps None None h = tt
+  owned-keeps None (Some t) h = absurd h
+  owned-keeps (Some r) None h = absurd h
+  owned-keeps (Some r) (Some t) h =
     let does = h.does in
-    let y = pinned-stays t h.thread h.there h.own (rw does refl) in
+    let y = (keeps t).kept h.thread h.there h.own (not-free (free t) refl) (rw does refl) in
     record { thread = y.0; there = y.1; own = y.2; change = h.change; does = y.4 ∙ does; range_is = closing-same process process' h.change heap ∙ h.range_is }
+    where
+      not-free : (b : Bool) → free t ≡ b → free t ≡ false
+      not-free false f = f
+      not-free true f = absurd (let n = sym (idle t h.thread f h.there h.own) ∙ ap change_in h.does in grind (arith, n))
+
+-- a thread that is not pinned changes nothing
+pub no-change : (d : Does) → is_pinned d ≡ false → change_in d ≡ None
+no-change (InVm c) e = absurd (grind (arith, e))
+no-change Called e = absurd (grind (arith, e))
+no-change Ready e = refl
+no-change (Stopped s) e = refl
+no-change (Asleep a) e = refl
+no-change (InWait n s) e = refl
 
 module _ (p : ℕ) (free : ℕ → Bool) (side : Side) (node node' : Node) (worker_count : ℕ) (ring_of : ℕ → ℕ) (k : Keeps p free node node')
   (idle : (u : ℕ) (x : Thread) → free u ≡ true → at node.threads u ≡ Some x → x.process ≡ p → is_pinned x.does ≡ false) where
@@ -175,7 +193,7 @@ module _ (p : ℕ) (free : ℕ → Bool) (side : Side) (node node' : Node) (work
     let stays = places-stay p free (at node.threads) (at node'.threads) idle k.threads (at side.lwk.callers) h.calls in
     record {
       covered = h.covered; rounded = h.rounded;
-      owned = owned-stays p free (at node.threads) (at node'.threads) idle k.threads (process_of node p) (process_of node' p) k.heap side.round side.lwk.changing h.owned;
+      owned = owned-keeps p free (at node.threads) (at node'.threads) (λ u x f e own. no-change x.does (idle u x f e own)) k.threads (process_of node p) (process_of node' p) k.heap side.round side.lwk.changing h.owned;
       served = h.served; answered = h.answered;
       calls = calls-stay p free (at node.threads) (at node'.threads) idle k.threads (at side.lwk.callers) h.calls;
       asked = h.asked;

@@ -35,7 +35,7 @@ module _ {V : Type 0} (f : V → ℕ) where
       go false f k = absurd (equal-or (a == b) k)
 
   -- below all keys there is nothing
-  none-below : (k x : ℕ) (es : List (ℕ × V)) → k ≤ x → fin.below_all nat_cmp x es ≡ true → fin.find nat_cmp k es ≡ None
+  pub none-below : (k x : ℕ) (es : List (ℕ × V)) → k ≤ x → fin.below_all nat_cmp x es ≡ true → fin.find nat_cmp k es ≡ None
   none-below k x [] l e = refl
   none-below k x (y ∷ es) l e =
     let a = both (is_lt (nat_cmp x y.0)) (fin.below_all nat_cmp x es) e in

@@ -42,7 +42,7 @@ reply_code q (Interrupt n place ∷ ms) = reply_code q ms
 reply_code q (Ack ∷ ms) = reply_code q ms
 reply_code q (Fault w page a ∷ ms) = reply_code q ms
 
-abbrev ended_if : Bool → Progress → CallStatus
+abbrev pub ended_if : Bool → Progress → CallStatus
 ended_if true p = Over (fault_answer p)
 ended_if false p = Active p
 
