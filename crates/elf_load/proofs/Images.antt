@@ -100,9 +100,13 @@ entry_from bytes entry s h =
     (e.0, low, high)
 
 any_map : (bytes : List ℕ) (entry : ℕ) (xs : List Placed) → Any (λ s. is_entry entry s ≡ true) xs → Any (RunsAt entry) (map (segment_from bytes) xs)
-any_map bytes entry xs (k, s, within, here, runs) =
-    (k, segment_from bytes s, omega (arith, length-map xs (segment_from bytes)),
-    get_or-map (segment_from bytes) xs k s (segment_from bytes s) within ∙ ap (segment_from bytes) here, entry_from bytes entry s runs)
+any_map bytes entry xs (k, s, within, here, runs) = (
+  k,
+  segment_from bytes s,
+  omega (arith, length-map xs (segment_from bytes)),
+  get_or-map (segment_from bytes) xs k s (segment_from bytes s) within ∙ ap (segment_from bytes) here,
+  entry_from bytes entry s runs,
+)
 
 pub entry_kept : (bytes : List ℕ) (entry : ℕ) (xs : List Placed) → has_entry entry xs ≡ true → (entry % 4 ≡ 0) × Any (RunsAt entry) (map (segment_from bytes) xs)
 entry_kept bytes entry xs h =

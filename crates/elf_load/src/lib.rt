@@ -16,3 +16,6 @@ pub use headers::Header;
 pub use job_model::{Image, Segment, Segments};
 pub use loading::load;
 pub use placed::Placed;
+
+#[cfg(test)]
+mod tests;

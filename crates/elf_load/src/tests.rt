@@ -1,0 +1,180 @@
+// Images that load, and the first rules that others break. The bytes were made by a program of its own.
+use super::*;
+use std::alloc::Global;
+
+// Exits with 7: one segment at 0x10000 that holds the whole file, the entry behind the headers.
+#[rattlefmt::skip]
+const EXIT_SEVEN: [u8; 132] = [
+    0x7f, 0x45, 0x4c, 0x46, 0x02, 0x01, 0x01, 0x00, 0x00, 0x00, 0x00, 0x00, 0x00, 0x00, 0x00, 0x00,
+    0x02, 0x00, 0xf3, 0x00, 0x01, 0x00, 0x00, 0x00, 0x78, 0x00, 0x01, 0x00, 0x00, 0x00, 0x00, 0x00,
+    0x40, 0x00, 0x00, 0x00, 0x00, 0x00, 0x00, 0x00, 0x00, 0x00, 0x00, 0x00, 0x00, 0x00, 0x00, 0x00,
+    0x00, 0x00, 0x00, 0x00, 0x40, 0x00, 0x38, 0x00, 0x01, 0x00, 0x00, 0x00, 0x00, 0x00, 0x00, 0x00,
+    0x01, 0x00, 0x00, 0x00, 0x07, 0x00, 0x00, 0x00, 0x00, 0x00, 0x00, 0x00, 0x00, 0x00, 0x00, 0x00,
+    0x00, 0x00, 0x01, 0x00, 0x00, 0x00, 0x00, 0x00, 0x00, 0x00, 0x00, 0x00, 0x00, 0x00, 0x00, 0x00,
+    0x84, 0x00, 0x00, 0x00, 0x00, 0x00, 0x00, 0x00, 0x84, 0x00, 0x00, 0x00, 0x00, 0x00, 0x00, 0x00,
+    0x00, 0x10, 0x00, 0x00, 0x00, 0x00, 0x00, 0x00, 0x13, 0x05, 0x70, 0x00, 0x93, 0x08, 0xd0, 0x05,
+    0x73, 0x00, 0x00, 0x00,
+];
+
+// Two segments, of 4 bytes at 0x10000 and of 8 at 0x10ffc, so that both have a part of the page 0x10.
+#[rattlefmt::skip]
+const TWO_ON_A_PAGE: [u8; 176] = [
+    0x7f, 0x45, 0x4c, 0x46, 0x02, 0x01, 0x01, 0x00, 0x00, 0x00, 0x00, 0x00, 0x00, 0x00, 0x00, 0x00,
+    0x02, 0x00, 0xf3, 0x00, 0x01, 0x00, 0x00, 0x00, 0x00, 0x00, 0x01, 0x00, 0x00, 0x00, 0x00, 0x00,
+    0x40, 0x00, 0x00, 0x00, 0x00, 0x00, 0x00, 0x00, 0x00, 0x00, 0x00, 0x00, 0x00, 0x00, 0x00, 0x00,
+    0x00, 0x00, 0x00, 0x00, 0x40, 0x00, 0x38, 0x00, 0x02, 0x00, 0x00, 0x00, 0x00, 0x00, 0x00, 0x00,
+    0x01, 0x00, 0x00, 0x00, 0x05, 0x00, 0x00, 0x00, 0x00, 0x00, 0x00, 0x00, 0x00, 0x00, 0x00, 0x00,
+    0x00, 0x00, 0x01, 0x00, 0x00, 0x00, 0x00, 0x00, 0x00, 0x00, 0x00, 0x00, 0x00, 0x00, 0x00, 0x00,
+    0x00, 0x00, 0x00, 0x00, 0x00, 0x00, 0x00, 0x00, 0x04, 0x00, 0x00, 0x00, 0x00, 0x00, 0x00, 0x00,
+    0x00, 0x10, 0x00, 0x00, 0x00, 0x00, 0x00, 0x00, 0x01, 0x00, 0x00, 0x00, 0x06, 0x00, 0x00, 0x00,
+    0x00, 0x00, 0x00, 0x00, 0x00, 0x00, 0x00, 0x00, 0xfc, 0x0f, 0x01, 0x00, 0x00, 0x00, 0x00, 0x00,
+    0x00, 0x00, 0x00, 0x00, 0x00, 0x00, 0x00, 0x00, 0x00, 0x00, 0x00, 0x00, 0x00, 0x00, 0x00, 0x00,
+    0x08, 0x00, 0x00, 0x00, 0x00, 0x00, 0x00, 0x00, 0x00, 0x10, 0x00, 0x00, 0x00, 0x00, 0x00, 0x00,
+];
+
+// The fault of the first image with these bytes in place.
+fn fault_of(alloc: Global, edits: &[(usize, u8)]) -> Option<ElfError> {
+    let mut bytes = EXIT_SEVEN;
+    for (place, value) in edits {
+        if let Some(byte) = bytes.get_mut(*place) {
+            *byte = *value;
+        }
+    }
+    match load(alloc, &bytes) {
+        Ok(_) => None,
+        Err(e) => Some(e),
+    }
+}
+
+#[test]
+fn loads(rt: HostRuntime) {
+    match load(rt.alloc(), &EXIT_SEVEN) {
+        Ok(image) => {
+            assert_eq!(rt; image.entry, 0x10078);
+            assert_eq!(rt; image.phdr, 0x10040);
+            assert_eq!(rt; image.phnum, 1);
+            match image.segments.as_slice().first() {
+                Some(s) => {
+                    assert_eq!(rt; s.addr, 0x10000);
+                    assert_eq!(rt; s.mem, 132);
+                    assert_eq!(rt; s.bytes.as_slice(), EXIT_SEVEN.as_slice());
+                    assert_eq!(rt; s.rights.0, 7);
+                }
+                None => assert!(rt; false),
+            }
+        }
+        Err(_) => assert!(rt; false),
+    }
+}
+
+#[test]
+fn first_broken_rules(rt: HostRuntime) {
+    let alloc = rt.alloc();
+    let short = match load(alloc, &EXIT_SEVEN[..63]) {
+        Ok(_) => None,
+        Err(e) => Some(e),
+    };
+    assert_eq!(rt; short, Some(ElfError::Fault(ElfFault::Short(63))));
+    let one_byte = [
+        (0, 0x7e, ElfFault::Magic),
+        (4, 1, ElfFault::Class),
+        (16, 3, ElfFault::Kind),
+        (18, 0xf2, ElfFault::Machine),
+        (48, 1, ElfFault::Flags),
+        // What a compiler writes for rv64gc.
+        (48, 5, ElfFault::Flags),
+        (54, 57, ElfFault::PhSize),
+        (56, 65, ElfFault::PhSize),
+        (56, 2, ElfFault::Short(132)),
+        (64, 3, ElfFault::Linked),
+        (64, 2, ElfFault::Linked),
+        (96, 0x85, ElfFault::Size(0)),
+        (72, 1, ElfFault::Size(0)),
+        (82, 0, ElfFault::Bounds(0)),
+        (24, 0x7a, ElfFault::Entry),
+        (68, 6, ElfFault::Entry),
+        (64, 4, ElfFault::Entry),
+    ];
+    for (place, value, fault) in one_byte {
+        assert_eq!(rt;
+            fault_of(alloc, &[(place, value)]),
+            Some(ElfError::Fault(fault)),
+            "at {place}"
+        );
+    }
+    assert_eq!(rt; fault_of(alloc, &[(48, 16)]), None);
+}
+
+#[test]
+fn hostile_images(rt: HostRuntime) {
+    let alloc = rt.alloc();
+    // Sums that pass 2^64.
+    let far = [
+        (56, 64),
+        (32, 0xff),
+        (33, 0xff),
+        (34, 0xff),
+        (35, 0xff),
+        (36, 0xff),
+        (37, 0xff),
+        (38, 0xff),
+        (39, 0xff),
+    ];
+    assert_eq!(rt;
+        fault_of(alloc, &far),
+        Some(ElfError::Fault(ElfFault::Short(132)))
+    );
+    let high = [
+        (81, 0xf0),
+        (82, 0xff),
+        (83, 0xff),
+        (84, 0xff),
+        (85, 0xff),
+        (86, 0xff),
+        (87, 0xff),
+        (96, 0),
+        (104, 0),
+        (105, 0x20),
+    ];
+    assert_eq!(rt;
+        fault_of(alloc, &high),
+        Some(ElfError::Fault(ElfFault::Bounds(0)))
+    );
+    // The file part is longer than the memory part.
+    assert_eq!(rt;
+        fault_of(alloc, &[(96, 2), (104, 1)]),
+        Some(ElfError::Fault(ElfFault::Size(0)))
+    );
+    // A file part of nothing reaches past nothing, wherever it stands.
+    assert_eq!(rt; fault_of(alloc, &[(96, 0), (79, 0xff)]), None);
+    // What may be written may be read: write and execute alone make all three.
+    let mut bytes = EXIT_SEVEN;
+    bytes[68] = 3;
+    let rights = match load(alloc, &bytes) {
+        Ok(image) => match image.segments.as_slice().first() {
+            Some(s) => s.rights.0,
+            None => 0,
+        },
+        Err(_) => 0,
+    };
+    assert_eq!(rt; rights, 7);
+}
+
+#[test]
+fn neighbours_overlap(rt: HostRuntime) {
+    let alloc = rt.alloc();
+    let shared = match load(alloc, &TWO_ON_A_PAGE) {
+        Ok(_) => None,
+        Err(e) => Some(e),
+    };
+    assert_eq!(rt; shared, Some(ElfError::Fault(ElfFault::Overlap(0, 1))));
+    // On the next page they do not.
+    let mut bytes = TWO_ON_A_PAGE;
+    bytes[136] = 0;
+    bytes[137] = 0x10;
+    let apart = match load(alloc, &bytes) {
+        Ok(image) => image.segments.len(),
+        Err(_) => 0,
+    };
+    assert_eq!(rt; apart, 2);
+}
