@@ -26,14 +26,14 @@ needed_flags = 8 ∷ 9 ∷ 10 ∷ 11 ∷ 16 ∷ []
 abbrev are_clone_flags : ℕ → Bool
 are_clone_flags flags = list_all (λ b. has_bit b flags) needed_flags && minus flags 0x17d0f00 == 0
 
-abbrev cloned_thread : Node → Thread → ℕ → ℕ → ℕ → ℕ → Thread
+abbrev pub cloned_thread : Node → Thread → ℕ → ℕ → ℕ → ℕ → Thread
 cloned_thread node x flags stack tls child_tid = record x {
   place = lowest_free_place node x.process;
   regs = set_reg 10 0 (cond (stack == 0) (cond (has_bit 19 flags) (set_reg 4 tls x.regs) x.regs)
     (set_reg 2 stack (cond (has_bit 19 flags) (set_reg 4 tls x.regs) x.regs)));
   pending = 0; clear_address = cond (has_bit 21 flags) child_tid 0; back = false; does = Ready }
 
-abbrev with_thread : Thread → Node → Node
+abbrev pub with_thread : Thread → Node → Node
 with_thread x node = record node { threads = put node.threads node.next_number x; next_number = node.next_number + 1 }
 
 abbrev clones : ℕ → ℕ → ℕ → ℕ → ℕ → ℕ → View → View
@@ -61,12 +61,12 @@ are_fork_flags flags = flags % 256 == fork_signal && minus flags (0x1380000 + fo
 abbrev child_process : ℕ → Process → Process
 child_process parent p = record p { parent = parent; waited = false; first_code = None; life = Living; instructions = 0; pending = 0 }
 
-abbrev child_regs : ℕ → ℕ → ℕ → Regs → Regs
+abbrev pub child_regs : ℕ → ℕ → ℕ → Regs → Regs
 child_regs flags stack tls r =
   let s = cond (has_bit 19 flags) (set_reg 4 tls r) r in
   set_reg 10 0 (cond (stack == 0) s (set_reg 2 stack s))
 
-abbrev child_thread : Thread → ℕ → ℕ → ℕ → ℕ → ℕ → Thread
+abbrev pub child_thread : Thread → ℕ → ℕ → ℕ → ℕ → ℕ → Thread
 child_thread x child flags stack tls child_tid = record x {
   process = child; place = 0; regs = child_regs flags stack tls x.regs; pending = 0;
   clear_address = cond (has_bit 21 flags) child_tid 0; back = false; does = Ready }
