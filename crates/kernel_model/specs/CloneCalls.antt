@@ -61,7 +61,7 @@ are_fork_flags flags = flags % 256 == fork_signal && minus flags (0x1380000 + fo
 abbrev pub child_process : ℕ → Process → Process
 child_process parent p = record p { parent = parent; waited = false; first_code = None; life = Living; instructions = 0; pending = 0 }
 
-abbrev child_regs : ℕ → ℕ → ℕ → Regs → Regs
+abbrev pub child_regs : ℕ → ℕ → ℕ → Regs → Regs
 child_regs flags stack tls r =
   let s = cond (has_bit 19 flags) (set_reg 4 tls r) r in
   set_reg 10 0 (cond (stack == 0) s (set_reg 2 stack s))
