@@ -4,7 +4,7 @@ use Rattle.file_model.specs.declared.descriptions.Target.{Target}
 use Rattle.file_model.specs.declared.descriptions.Target.TheVariants.{OfNode, ReadEnd, WriteEnd, OfConsole}
 use Rattle.mck_word.specs.Lists.{lowest_not_in}
 use Rattle.mck_word.specs.Maps.{Map, at, put, cut, change, collect, keys, no_rows, some_row, total}
-use Rattle.std.specs.Prelude.{ℕ, ◌+◌, ◌-◌, Bool, true, false, cond, ◌||◌, ◌==◌, List, [], length, is_some, nat_lt, unwrap_or, Option, Some, None}
+use Rattle.std.specs.Prelude.{ℕ, ◌+◌, ◌-◌, Bool, true, false, cond, ◌||◌, ◌==◌, List, [], length, is_some, nat_lt, unwrap_or, Option, Some, None, ℤ, pos, negsuc}
 
 abbrev pub Name : Type 0
 Name = List ℕ
@@ -83,6 +83,11 @@ descriptors_of files process = unwrap_or (at files.descriptors process) no_rows
 -- the number of the description that a descriptor of the process names
 abbrev pub named_by : Files → ℕ → ℕ → Option ℕ
 named_by files process fd = at (descriptors_of files process) fd
+
+-- the same at a descriptor as a call gives it, which may be negative
+abbrev pub described : Files → ℕ → ℤ → Option ℕ
+described files process (negsuc n) = None
+described files process (pos fd) = named_by files process fd
 
 -- the least number that is no key
 abbrev pub lowest_free : {V : Type 0} → Map V → ℕ

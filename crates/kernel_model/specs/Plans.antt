@@ -1,14 +1,10 @@
 -- The plan of a system call: not known, local, on memory, or delegated, with its phases.
 use Rattle.file_model.specs.declared.operations.FileOp.{FileOp}
 use Rattle.file_model.specs.declared.operations.FileOp.TheVariants.{Openat, Mkdirat, Unlinkat, Close, Lseek, Ioctl, Pipe2, Fstat, Getdents, Read as ReadAct, Write as WriteAct}
+use Rattle.kernel_model.specs.declared.ranges.Range.{Range}
 use Rattle.mck_word.specs.Lists.{member}
 use Rattle.mck_word.specs.Words.{int_argument, signed}
 use Rattle.std.specs.Prelude.{ℕ, ◌*◌, ◌%◌, ◌^◌, Bool, cond, ◌||◌, ◌==◌, min, List, [], ◌∷◌, get_or, Option, Some, None, ℤ, pos, negsuc}
-
--- `len` bytes of the process's memory, from `address` on
-pub record Range : Type 0 where
-  pub address : ℕ
-  pub len : ℕ
 
 -- A phase with the ranges that it has left. The pieces of a phase are those of its ranges, in order.
 pub data Phase : Type 0 where
@@ -82,17 +78,17 @@ most_path = 4_096
 
 -- ---- the plan
 
-abbrev argument : List ℕ → ℕ → ℕ
+abbrev pub argument : List ℕ → ℕ → ℕ
 argument arguments k = get_or arguments k 0
 
-abbrev one_range : ℕ → ℕ → List Range
+abbrev pub one_range : ℕ → ℕ → List Range
 one_range address len = record { address = address; len = len } ∷ []
 
-abbrev magnitude : ℤ → ℕ
+abbrev pub magnitude : ℤ → ℕ
 magnitude (pos n) = n
 magnitude (negsuc n) = 0
 
-abbrev phases_of : ℕ → List ℕ → List Phase
+abbrev pub phases_of : ℕ → List ℕ → List Phase
 phases_of number arguments =
   cond (has_path number) (Gather (one_range (argument arguments 1) most_path) ∷ Act ∷ [])
   (cond (number == pipe2_call) (Act ∷ Scatter (one_range (argument arguments 0) 8) ∷ [])
@@ -114,17 +110,17 @@ plan number arguments =
 
 -- ---- the act of a delegated call
 
-abbrev int_at : List ℕ → ℕ → ℤ
+abbrev pub int_at : List ℕ → ℕ → ℤ
 int_at arguments k = int_argument (argument arguments k)
 
 -- an int argument whose bits are flags: its low 32 bits
-abbrev flags_at : List ℕ → ℕ → ℕ
+abbrev pub flags_at : List ℕ → ℕ → ℕ
 flags_at arguments k = argument arguments k % 2 ^ 32
 
-abbrev own_offset : ℕ → List ℕ → Option ℤ
+abbrev pub own_offset : ℕ → List ℕ → Option ℤ
 own_offset number arguments = cond (number == pread64_call || number == pwrite64_call) (Some (signed 64 (argument arguments 3))) None
 
-abbrev vector_count : ℕ → List ℕ → ℤ
+abbrev pub vector_count : ℕ → List ℕ → ℤ
 vector_count number arguments = cond (has_vectors number) (int_at arguments 2) (pos 0)
 
 abbrev pub act_of : ℕ → List ℕ → FileOp

@@ -8,7 +8,8 @@ use Rattle.file_model.specs.declared.operations.FileOp.TheVariants.{Get, Put}
 use Rattle.file_model.specs.declared.operations.Readiness.{Readiness}
 use Rattle.file_model.specs.declared.operations.Readiness.TheVariants.{Ready, NotReady, FileStep}
 use Rattle.kernel_model.specs.Pages.{first_piece}
-use Rattle.kernel_model.specs.Plans.{Range, Phase, Gather, Act, Scatter, Stream, is_read, is_write, has_path, act_of, most_moved, pread64_call, pwrite64_call}
+use Rattle.kernel_model.specs.declared.ranges.Range.{Range}
+use Rattle.kernel_model.specs.Plans.{Phase, Gather, Act, Scatter, Stream, is_read, is_write, has_path, act_of, most_moved, pread64_call, pwrite64_call}
 use Rattle.mck_word.specs.Lists.{tail, before_zero, spliced}
 use Rattle.mck_word.specs.Words.{number_of, refused}
 use Rattle.mck_word.specs.declared.Access.{Access}
@@ -40,16 +41,16 @@ abbrev pub without_empty : List Range → List Range
 without_empty ranges = filter (λ r. nat_lt 0 r.len) ranges
 
 -- the ranges after n bytes of the first one
-abbrev advanced : ℕ → List Range → List Range
+abbrev pub advanced : ℕ → List Range → List Range
 advanced n [] = []
 advanced n (r ∷ rs) = without_empty (record { address = r.address + n; len = r.len - n } ∷ rs)
 
 -- the ranges cut to n bytes in all
-abbrev cut_ranges : ℕ → List Range → List Range
+abbrev pub cut_ranges : ℕ → List Range → List Range
 cut_ranges n [] = []
 cut_ranges n (r ∷ rs) = record { address = r.address; len = min n r.len } ∷ cut_ranges (n - r.len) rs
 
-abbrev ranges_of : Phase → List Range
+abbrev pub ranges_of : Phase → List Range
 ranges_of (Gather rs) = rs
 ranges_of Act = []
 ranges_of (Scatter rs) = rs
@@ -67,7 +68,7 @@ has_piece p = nat_lt 0 (length (ranges_left p))
 abbrev pub next_piece : Progress → Piece
 next_piece p = let r = get_or (ranges_left p) 0 (record { address = 0; len = 0 }) in first_piece r.address r.len
 
-abbrev access_of_phase : ℕ → Phase → Access
+abbrev pub access_of_phase : ℕ → Phase → Access
 access_of_phase number (Gather rs) = Read
 access_of_phase number Act = Read
 access_of_phase number (Scatter rs) = Write
@@ -77,10 +78,10 @@ access_of_phase number (Stream rs) = cond (is_read number) Write Read
 abbrev pub needed_access : Progress → Access
 needed_access p = access_of_phase p.number (get_or p.phases 0 Act)
 
-abbrev offset_argument : Progress → Option ℕ
+abbrev pub offset_argument : Progress → Option ℕ
 offset_argument p = cond (p.number == pread64_call || p.number == pwrite64_call) (Some (get_or p.arguments 3 0)) None
 
-abbrev description_found : Progress → ℕ
+abbrev pub description_found : Progress → ℕ
 description_found p = elim p.found [ None ↦ 0 | Some d ↦ d ]
 
 -- the operation of the stream's next piece
@@ -181,7 +182,7 @@ gather_path p ranges files =
   (goes_on (record p { phases = Gather ranges ∷ tail p.phases }) files))
 
 -- the vectors, each an address and a length of 8 bytes
-abbrev vectors : ℕ → List ℕ → List Range
+abbrev pub vectors : ℕ → List ℕ → List Range
 vectors zero bytes = []
 vectors (suc n) bytes = record { address = number_of (take 8 bytes); len = number_of (take 8 (drop 8 bytes)) } ∷ vectors n (drop 16 bytes)
 
@@ -204,7 +205,7 @@ scattered p ranges files page =
   record { page = spliced page piece.off (take piece.len p.buffer);
            after = settle (record p { buffer = drop piece.len p.buffer; phases = Scatter (advanced piece.len ranges) ∷ tail p.phases }) files }
 
-abbrev nat_of : ℤ → ℕ
+abbrev pub nat_of : ℤ → ℕ
 nat_of (pos n) = n
 nat_of (negsuc n) = 0
 

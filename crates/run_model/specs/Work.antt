@@ -23,7 +23,8 @@ use Rattle.isa_model.specs.Registers.{reg}
 use Rattle.isa_model.specs.declared.stops.Stop.{Stop}
 use Rattle.isa_model.specs.declared.stops.Stop.TheVariants.{Ecall}
 use Rattle.kernel_model.specs.Nodes.{Process, Thread, instructions_in_all, process_of, thread_of, ScriptLine, is_living, lives, stop_in}
-use Rattle.kernel_model.specs.Plans.{Phase as CallPhase, Range, Gather, Act as ActPhase, Scatter, Stream}
+use Rattle.kernel_model.specs.declared.ranges.Range.{Range}
+use Rattle.kernel_model.specs.Plans.{Phase as CallPhase, Gather, Act as ActPhase, Scatter, Stream}
 use Rattle.kernel_model.specs.Progress.{Progress, next_kind, is_ready, is_not_ready, needed_access, next_piece}
 use Rattle.kernel_model.specs.SignalSets.{has}
 use Rattle.kernel_model.specs.Signals.{frame_size}
