@@ -1,5 +1,6 @@
 pub mod Cuts
 pub mod Entered
 pub mod Entries
+pub mod Journals
 pub mod Lines
 pub mod NumberTexts

@@ -5,9 +5,11 @@
 //! bytes once. The definitions stand in run_model (reports, traces), run_summary, and specs/ here.
 #![tactic(auto)]
 
+mod reading;
 mod report_text;
 mod trace_text;
 mod writing;
 
+pub use reading::{TraceError, read_trace};
 pub use report_text::{grow, report};
 pub use trace_text::trace;
