@@ -7,9 +7,13 @@
 
 mod reading;
 mod report_text;
+mod status;
+mod status_text;
 mod trace_text;
 mod writing;
 
 pub use reading::{TraceError, read_trace};
 pub use report_text::{grow, report};
+pub use status::{Status, status_number};
+pub use status_text::status_line;
 pub use trace_text::trace;
