@@ -125,10 +125,12 @@ pub record Named (first : List ℕ) (v : ℕ) : Type 0 where
 
 pub names : (first : List ℕ) (v : ℕ) → version_of first ≡ Some v → Named first v
 names first v e = elim (ways (same first (codes "mctrace 1")) (Some 1) (cond (same first (codes "mctrace 2")) (Some 2) None) (Some v) e) [
-    | inl w ↦ (let k : 1 ≡ v = (let h : Some 1 ≡ Some v = w.1 in cc) in subst (Named first) k (record { is = inl refl; text = is_same first (codes "mctrace 1") w.0 }))
-    | inr w ↦ (elim (ways (same first (codes "mctrace 2")) (Some 2) None (Some v) w.1) [
-        | inl x ↦ (let k : 2 ≡ v = (let h : Some 2 ≡ Some v = x.1 in cc) in subst (Named first) k (record { is = inr refl; text = is_same first (codes "mctrace 2") x.0 }))
-        | inr x ↦ (let h : None ≡ Some v = x.1 in cc) ]) ]
+  | inl w ↦ (let k : 1 ≡ v = (let h : Some 1 ≡ Some v = w.1 in cc) in subst (Named first) k (record { is = inl refl; text = is_same first (codes "mctrace 1") w.0 }))
+  | inr w ↦ (elim (ways (same first (codes "mctrace 2")) (Some 2) None (Some v) w.1) [
+    | inl x ↦ (let k : 2 ≡ v = (let h : Some 2 ≡ Some v = x.1 in cc) in subst (Named first) k (record { is = inr refl; text = is_same first (codes "mctrace 2") x.0 }))
+    | inr x ↦ (let h : None ≡ Some v = x.1 in cc)
+  ])
+]
 
 version_of-named : (v : ℕ) → IsVersion v → version_of (named v) ≡ Some v
 version_of-named v (inl e) = subst (λ w. version_of (named w) ≡ Some w) (sym e) refl

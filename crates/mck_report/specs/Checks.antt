@@ -6,7 +6,7 @@ use Rattle.mck_flags.specs.declared.rights.Rights.{Rights}
 use Rattle.mck_word.specs.Words.{has_bit}
 use Rattle.run_model.specs.Reports.{hex_digit}
 use Rattle.run_model.specs.Texts.{Number, Text, Part, Line}
-use Rattle.std.specs.Prelude.{ℕ, zero, suc, ◌+◌, ◌/◌, ◌%◌, cond, List, [], ◌∷◌, ◌++◌, map, sum_by, codes}
+use Rattle.std.specs.Prelude.{ℕ, zero, suc, ◌+◌, ◌/◌, ◌%◌, cond, List, [], ◌∷◌, ◌++◌, map, codes}
 
 -- so many hexadecimal digits
 abbrev pub hex_digits : ℕ → ℕ → List ℕ
@@ -33,7 +33,11 @@ abbrev pub guests_parts : ℕ → List Image → List Part
 guests_parts number [] = []
 guests_parts number (image ∷ images) = guest_parts number image ++ guests_parts (number + 1) images
 
+abbrev pub frames_needed : List Image → ℕ
+frames_needed [] = 0
+frames_needed (image ∷ images) = needed_frames image + frames_needed images
+
 -- of the guests' images, and the frames that the job gives
 abbrev pub check_parts : ℕ → List Image → List Part
 check_parts frames images =
-    guests_parts 1 images ++ Line (Text (codes "frames") ∷ Number (sum_by needed_frames images) ∷ Text (codes "of") ∷ Number frames ∷ []) ∷ []
+    guests_parts 1 images ++ Line (Text (codes "frames") ∷ Number (frames_needed images) ∷ Text (codes "of") ∷ Number frames ∷ []) ∷ []

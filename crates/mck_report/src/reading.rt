@@ -232,11 +232,7 @@ fn version_of(line: &[u8]) -> Option<u8>
 }
 
 // The events of the lines behind the first.
-fn read_events(
-    version: u8,
-    bytes: &[u8],
-    journal: &mut Items<Event>,
-) -> Result<(), TraceError>
+fn read_events(version: u8, bytes: &[u8], journal: &mut Items<Event>) -> Result<(), TraceError>
     requires empty { journal.old ≡ [] }
     requires room { length bytes.now + 2 < 2 ^ 64 }
     ensures spelled { OnOk result (bytes.now ≡ text_of (event_lines journal.new)) }

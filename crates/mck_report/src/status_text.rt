@@ -78,7 +78,10 @@ fn add_elf(text: &mut Bytes, guest: u32, why: &ElfFault) -> Result<(), NoMemory>
             let word = Token::Text(b"overlap");
             let elf = Token::Text(b"elf");
             let guest = Token::Number(u64::from(guest));
-            add_message(text, &[Token::Text(b"guest"), guest, elf, word, first, second])
+            add_message(
+                text,
+                &[Token::Text(b"guest"), guest, elf, word, first, second],
+            )
         }
         ElfFault::Entry => add_elf_word(text, guest, b"entry"),
     }
@@ -88,7 +91,12 @@ fn add_elf_word(text: &mut Bytes, guest: u32, word: &[u8]) -> Result<(), NoMemor
     ensures { OnOk result (text.new ≡ text.old ++ part_bytes (Line (Text (codes "mcexec:") ∷ Text (codes "guest") ∷ Number guest ∷ Text (codes "elf") ∷ Text word.now ∷ []))) }
 {
     let guest = Token::Number(u64::from(guest));
-    let words = [Token::Text(b"guest"), guest, Token::Text(b"elf"), Token::Text(word)];
+    let words = [
+        Token::Text(b"guest"),
+        guest,
+        Token::Text(b"elf"),
+        Token::Text(word),
+    ];
     add_message(text, &words)
 }
 

@@ -19,4 +19,5 @@ returns-clause-entry c =
     let fits = (line_of c.args.line.now c.in-Some.event (sym c.in-Some.ensures)).fits in
     elim c.else-version-eq1.branch [
       | else-version-eq1-via-then-version-eq1+else-not-is_of_first w ↦ record { fits = fits; first = λ e. sym w.if-not-is_of_first.ensures }
-      | else-version-eq1-via-else-version-eq1 w ↦ record { fits = fits; first = λ e. absurd (w.if-version-eq1.false e) } ]
+      | else-version-eq1-via-else-version-eq1 w ↦ record { fits = fits; first = λ e. absurd (w.if-version-eq1.false e) }
+    ]

@@ -27,9 +27,9 @@ loop-rest-smaller c = omega (arith, cut_shorter c.loop-rest.rest.now c.in-Some.t
 pub loop-rest-preserved : goal.loop-rest-preserved
 loop-rest-preserved c = record {
   spelled = one_more c.args.bytes.now c.loop-rest.rest.now c.in-Some.text.now c.in-Some.more.now c.loop-rest.journal c.push.new.self c.in-Some-read_entry.event
-    c.loop-rest.invariant.spelled c.in-Some.ensures c.in-Some-read_entry.ensures.line c.in_ok-push.ensures.ok;
+      c.loop-rest.invariant.spelled c.in-Some.ensures c.in-Some-read_entry.ensures.line c.in_ok-push.ensures.ok;
   entries = all_more (IsEntry c.args.version) c.loop-rest.journal c.push.new.self c.in-Some-read_entry.event c.loop-rest.invariant.entries c.in-Some-read_entry.ensures.entry c.in_ok-push.ensures.ok;
   number = (let longer : length c.push.new.self ≡ length c.loop-rest.journal + 1 = ap length c.in_ok-push.ensures.ok ∙ length-append c.loop-rest.journal (c.in-Some-read_entry.event ∷ []) in
-    omega (arith, c.loop-rest.invariant.number));
+      omega (arith, c.loop-rest.invariant.number));
   room = omega (arith, c.loop-rest.invariant.room, cut_shorter c.loop-rest.rest.now c.in-Some.text.now c.in-Some.more.now c.in-Some.ensures);
 }
