@@ -1,10 +1,11 @@
 -- Cutting bytes at a mark.
 use Rattle.mck_report.specs.Reading.{Halves, cut_at, with_first}
 use Rattle.run_model.specs.Texts.{Word, Text, Number, spaced, word_bytes}
-use Rattle.std.proofs.Common.{◌≡◌, ℕ, ◌+◌, ◌%◌, ◌^◌, ◌<◌, ◌==◌, Bool, true, false, List, [], ◌∷◌, ◌++◌, Option, Some, None, refl, sym, ◌∙◌, ap, arith, append_assoc, cond}
+use Rattle.std.proofs.Common.{◌≡◌, ℕ, ◌+◌, ◌%◌, ◌^◌, ◌<◌, ◌≤◌, ◌==◌, suc, length, take, drop, Bool, true, false, List, [], ◌∷◌, ◌++◌, Option, Some, None, refl, sym, ◌∙◌, ap, arith, append_assoc, cond, nat_lt, subst, one-add}
 use Rattle.std.proofs.lemmas.Bool.Decides.{nat_tests}
 use Rattle.std.proofs.lemmas.Fmt.{decimal_by_steps}
 use Rattle.std.specs.Fmt.{decimal}
+use Rattle.std.specs.List.{position, position_or_len}
 
 -- none of the bytes is the mark
 abbrev pub lacks : ℕ → List ℕ → Bool
@@ -77,3 +78,46 @@ pub spaced_lacks : (ws : List Word) → WordsLack 10 ws → lacks 10 (spaced ws)
 spaced_lacks [] h = refl
 spaced_lacks (w ∷ []) h = h.0
 spaced_lacks (w ∷ v ∷ ws) h = lacks-append 10 (word_bytes w) (32 ∷ spaced (v ∷ ws)) h.0 (spaced_lacks (v ∷ ws) h.1)
+
+-- the place of the first mark, or the length
+abbrev place : ℕ → List ℕ → ℕ
+place mark xs = position_or_len (λ b. b == mark) xs
+
+-- the cut at a place
+abbrev HasCut : ℕ → List ℕ → Type 0
+HasCut mark xs = place mark xs < length xs → cut_at mark xs ≡ Some (take (place mark xs) xs, drop 1 (drop (place mark xs) xs))
+
+abbrev HasNone : ℕ → List ℕ → Type 0
+HasNone mark xs = length xs ≤ place mark xs → cut_at mark xs ≡ None
+
+here_or_later : (mark x : ℕ) (xs : List ℕ) (t : Bool) → (x == mark) ≡ t → HasCut mark xs → HasCut mark (x ∷ xs)
+here_or_later mark x xs true e more = rw e (λ h. refl)
+here_or_later mark x xs false e more = rw (e, one-add) (λ h. rw (more (omega arith)) refl)
+
+none_later : (mark x : ℕ) (xs : List ℕ) (t : Bool) → (x == mark) ≡ t → HasNone mark xs → HasNone mark (x ∷ xs)
+none_later mark x xs true e more = rw e (λ h. absurd (omega arith))
+none_later mark x xs false e more = rw (e, one-add) (λ h. rw (more (omega arith)) refl)
+
+has_cut : (mark : ℕ) (xs : List ℕ) → HasCut mark xs
+has_cut mark [] h = absurd (omega arith)
+has_cut mark (x ∷ xs) h = here_or_later mark x xs (x == mark) refl (has_cut mark xs) h
+
+has_none : (mark : ℕ) (xs : List ℕ) → HasNone mark xs
+has_none mark [] h = refl
+has_none mark (x ∷ xs) h = none_later mark x xs (x == mark) refl (has_none mark xs) h
+
+at_place : (n k : ℕ) (t : Bool) (i : ℕ) → nat_lt k n ≡ t → cond t (Some k) None ≡ Some i → (k < n) × (k ≡ i)
+at_place n k true i e h = (grind (arith, nat_tests), cc)
+at_place n k false i e h = cc
+
+no_place : (n k : ℕ) (t : Bool) → nat_lt k n ≡ t → cond t (Some k) None ≡ None → n ≤ k
+no_place n k true e h = cc
+no_place n k false e h = grind (arith, nat_tests)
+
+pub cut_at_place : (mark : ℕ) (xs : List ℕ) (i : ℕ) → position (λ b. b == mark) xs ≡ Some i → cut_at mark xs ≡ Some (take i xs, drop 1 (drop i xs))
+cut_at_place mark xs i e =
+    let p = at_place (length xs) (place mark xs) (nat_lt (place mark xs) (length xs)) i refl e in
+    subst (λ k. cut_at mark xs ≡ Some (take k xs, drop 1 (drop k xs))) p.1 (has_cut mark xs p.0)
+
+pub no_cut : (mark : ℕ) (xs : List ℕ) → position (λ b. b == mark) xs ≡ None → cut_at mark xs ≡ None
+no_cut mark xs e = has_none mark xs (no_place (length xs) (place mark xs) (nat_lt (place mark xs) (length xs)) refl e)

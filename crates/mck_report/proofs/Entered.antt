@@ -26,8 +26,9 @@ is_same a b e = (bytes_decides a b).0 e
 small_number : (r : Option ℕ) (n : ℕ) → small_or_none r ≡ Some n → (r ≡ Some n) × Small n
 small_number None n e = cc
 small_number (Some m) n e = elim (ways (nat_lt m (2 ^ 32)) (Some m) None (Some n) e) [
-    | inl w ↦ (let t : nat_lt m (2 ^ 32) ≡ true = w.0 in let k : m ≡ n = (let h : Some m ≡ Some n = w.1 in cc) in (w.1, subst Small k (grind (arith, nat_tests))))
-    | inr w ↦ (let h : None ≡ Some n = w.1 in cc) ]
+  | inl w ↦ (let t : nat_lt m (2 ^ 32) ≡ true = w.0 in let k : m ≡ n = (let h : Some m ≡ Some n = w.1 in cc) in (w.1, subst Small k (grind (arith, nat_tests))))
+  | inr w ↦ (let h : None ≡ Some n = w.1 in cc)
+]
 
 small : (bytes : List ℕ) (n : ℕ) → small_of bytes ≡ Some n → (bytes ≡ decimal n) × Small n
 small bytes n e = let r = small_number (number_of bytes) n e in ((written bytes n r.0).text, r.1)
@@ -37,9 +38,10 @@ made : {N : Type 0} (Q : List ℕ → N → Event → Type 0) (rules : List (Rul
     (word : List ℕ) (x : N) (e : Event) → made_by rules word x ≡ Some e → Q word x e
 made Q [] each word x e h = cc
 made Q (r ∷ rs) each word x e h = elim (ways (same word r.0) (Some (r.1 x)) (made_by rs word x) (Some e) h) [
-    | inl w ↦ (let k : r.1 x ≡ e = (let s : Some (r.1 x) ≡ Some e = w.1 in cc) in
-        subst (λ f. Q word x f) k (subst (λ v. Q v x (r.1 x)) (sym (is_same word r.0 w.0)) (each.0 x)))
-    | inr w ↦ made Q rs each.1 word x e w.1 ]
+  | inl w ↦ (let k : r.1 x ≡ e = (let s : Some (r.1 x) ≡ Some e = w.1 in cc) in
+      subst (λ f. Q word x f) k (subst (λ v. Q v x (r.1 x)) (sym (is_same word r.0 w.0)) (each.0 x)))
+  | inr w ↦ made Q rs each.1 word x e w.1
+]
 
 abbrev MadeOfOne : List ℕ → ℕ → Event → Type 0
 MadeOfOne word n e = Small n → (words_of e ≡ Text word ∷ Number n ∷ []) × Fits e
@@ -62,23 +64,27 @@ fetch_words p (suc m) h = refl
 
 made_fetch : (word : List ℕ) (n m : ℕ) (e : Event) → word ≡ codes "fetch" → cond (m == 0) None (Some (Fetch (pid n) m)) ≡ Some e → Small n → Small m → IsOfTwo word n m e
 made_fetch word n m e w h p q = elim (ways (m == 0) None (Some (Fetch (pid n) m)) (Some e) h) [
-    | inl x ↦ (let s : None ≡ Some e = x.1 in cc)
-    | inr x ↦ (let k : Fetch (pid n) m ≡ e = (let s : Some (Fetch (pid n) m) ≡ Some e = x.1 in cc) in
-        subst (λ f. IsOfTwo word n m f) k (subst (λ v. IsOfTwo v n m (Fetch (pid n) m)) (sym w) (fetch_words n m x.0, (p, q)))) ]
+  | inl x ↦ (let s : None ≡ Some e = x.1 in cc)
+  | inr x ↦ (let k : Fetch (pid n) m ≡ e = (let s : Some (Fetch (pid n) m) ≡ Some e = x.1 in cc) in
+      subst (λ f. IsOfTwo word n m f) k (subst (λ v. IsOfTwo v n m (Fetch (pid n) m)) (sym w) (fetch_words n m x.0, (p, q))))
+]
 
 made_small : (word : List ℕ) (n m : ℕ) (e : Event) → two_small word n m ≡ Some e → Small n → Small m → IsOfTwo word n m e
 made_small word n m e h p q = elim (ways (same word (codes "fetch")) (cond (m == 0) None (Some (Fetch (pid n) m))) (made_by twos word (n, m)) (Some e) h) [
-    | inl w ↦ made_fetch word n m e (is_same word (codes "fetch") w.0) w.1 p q
-    | inr w ↦ made_of_two word (n, m) e w.1 p q ]
+  | inl w ↦ made_fetch word n m e (is_same word (codes "fetch") w.0) w.1 p q
+  | inr w ↦ made_of_two word (n, m) e w.1 p q
+]
 
 made_numbers : (word : List ℕ) (n m : ℕ) (e : Event) → two_numbers word n m ≡ Some e → Small n → m < 2 ^ 64 → IsOfTwo word n m e
 made_numbers word n m e h p q =
     elim (ways (same word (codes "unpark")) (Some (Unpark (pid n) (req m))) (cond (nat_lt m (2 ^ 32)) (two_small word n m) None) (Some e) h) [
-    | inl w ↦ (let k : Unpark (pid n) (req m) ≡ e = (let s : Some (Unpark (pid n) (req m)) ≡ Some e = w.1 in cc) in
-        subst (λ f. IsOfTwo word n m f) k (subst (λ v. IsOfTwo v n m (Unpark (pid n) (req m))) (sym (is_same word (codes "unpark") w.0)) (refl, (p, q))))
-    | inr w ↦ (elim (ways (nat_lt m (2 ^ 32)) (two_small word n m) None (Some e) w.1) [
+      | inl w ↦ (let k : Unpark (pid n) (req m) ≡ e = (let s : Some (Unpark (pid n) (req m)) ≡ Some e = w.1 in cc) in
+          subst (λ f. IsOfTwo word n m f) k (subst (λ v. IsOfTwo v n m (Unpark (pid n) (req m))) (sym (is_same word (codes "unpark") w.0)) (refl, (p, q))))
+      | inr w ↦ (elim (ways (nat_lt m (2 ^ 32)) (two_small word n m) None (Some e) w.1) [
         | inl x ↦ (let t : nat_lt m (2 ^ 32) ≡ true = x.0 in made_small word n m e x.1 p (grind (arith, nat_tests)))
-        | inr x ↦ (let s : None ≡ Some e = x.1 in cc) ]) ]
+        | inr x ↦ (let s : None ≡ Some e = x.1 in cc)
+      ])
+    ]
 
 -- ---- the line
 
@@ -110,13 +116,17 @@ run_line a b c (Some i) (Some j) (Some k) e p q u h =
     let x = small a i p in let y = small b j q in let z = small c k u in
     let is : Run i (tid j) k ≡ e = (let g : Some (Run i (tid j) k) ≡ Some e = h in cc) in
     subst (λ f. IsLine (codes "run" ++ 32 ∷ (a ++ 32 ∷ (b ++ 32 ∷ c))) f) is
-    (record { text = ap (λ v. codes "run" ++ 32 ∷ (v ++ 32 ∷ (b ++ 32 ∷ c))) x.0 ∙ (ap (λ v. codes "run" ++ 32 ∷ (decimal i ++ 32 ∷ (v ++ 32 ∷ c))) y.0
-        ∙ ap (λ v. codes "run" ++ 32 ∷ (decimal i ++ 32 ∷ (decimal j ++ 32 ∷ v))) z.0); fits = (x.1, y.1, z.1) })
+    (record {
+      text = ap (λ v. codes "run" ++ 32 ∷ (v ++ 32 ∷ (b ++ 32 ∷ c))) x.0 ∙ (ap (λ v. codes "run" ++ 32 ∷ (decimal i ++ 32 ∷ (v ++ 32 ∷ c))) y.0
+          ∙ ap (λ v. codes "run" ++ 32 ∷ (decimal i ++ 32 ∷ (decimal j ++ 32 ∷ v))) z.0);
+      fits = (x.1, y.1, z.1);
+    })
 
 three_line : (word a b c : List ℕ) (e : Event) → three_of word a b c ≡ Some e → IsLine (word ++ 32 ∷ (a ++ 32 ∷ (b ++ 32 ∷ c))) e
 three_line word a b c e h = elim (ways (same word (codes "run")) (run_from (small_of a) (small_of b) (small_of c)) None (Some e) h) [
-    | inl w ↦ subst (λ v. IsLine (v ++ 32 ∷ (a ++ 32 ∷ (b ++ 32 ∷ c))) e) (sym (is_same word (codes "run") w.0)) (run_line a b c (small_of a) (small_of b) (small_of c) e refl refl refl w.1)
-    | inr w ↦ (let s : None ≡ Some e = w.1 in cc) ]
+  | inl w ↦ subst (λ v. IsLine (v ++ 32 ∷ (a ++ 32 ∷ (b ++ 32 ∷ c))) e) (sym (is_same word (codes "run") w.0)) (run_line a b c (small_of a) (small_of b) (small_of c) e refl refl refl w.1)
+  | inr w ↦ (let s : None ≡ Some e = w.1 in cc)
+]
 
 later_line : (word a rest : List ℕ) (r : Halves) (e : Event) → cut_at 32 rest ≡ r → two_or_three word a rest r ≡ Some e → IsLine (word ++ 32 ∷ (a ++ 32 ∷ rest)) e
 later_line word a rest None e c h = two_line word a rest (small_of a) (number_of rest) e refl refl h

@@ -38,7 +38,7 @@ digits-append n (x ∷ xs) ys =
     let m = n * 10 + (x - 48) in
     let a = nat_lt x 48 in let b = nat_lt 57 x in let c = nat_lt m (2 ^ 64) in
     sym (past_none a (cond b None (cond c (digits m xs) None)) ys
-      ∙ ap (λ r. cond a None r) (past_none b (cond c (digits m xs) None) ys ∙ ap (λ r. cond b None r) (past_some c (digits m xs) ys ∙ ap (λ r. cond c r None) (sym (digits-append m xs ys)))))
+    ∙ ap (λ r. cond a None r) (past_none b (cond c (digits m xs) None) ys ∙ ap (λ r. cond b None r) (past_some c (digits m xs) ys ∙ ap (λ r. cond c r None) (sym (digits-append m xs ys)))))
 
 abbrev Reads : ℕ → List ℕ → Type 0
 Reads n ds = n < 2 ^ 64 → digits 0 ds ≡ Some n

@@ -51,8 +51,16 @@ IsVersion v = (v ≡ 1) ⊎ (v ≡ 2)
 pub data FirstBroken (bytes : List ℕ) (line : ℕ) : Type 0 where
   NoVersion : line ≡ 1 → ((v : ℕ) (rest : List ℕ) → IsVersion v → bytes ≡ part_bytes (version v) ++ rest → ⊥) → FirstBroken bytes line
   NoEntry : (v : ℕ) (events : List Event) (rest : List ℕ) → IsVersion v → AllByRecursion (IsEntry v) events →
-    bytes ≡ text_of (version v ∷ event_lines events) ++ rest → line ≡ length events + 2 → (rest ≡ [] → ⊥) →
-    ((e : Event) (more : List ℕ) → IsEntry v e → rest ≡ part_bytes (Line (words_of e)) ++ more → ⊥) → FirstBroken bytes line
+      bytes ≡ text_of (version v ∷ event_lines events) ++ rest → line ≡ length events + 2 → (rest ≡ [] → ⊥) →
+      ((e : Event) (more : List ℕ) → IsEntry v e → rest ≡ part_bytes (Line (words_of e)) ++ more → ⊥) → FirstBroken bytes line
+
+-- The same behind the first line, after these events.
+pub record BrokenBehind (v : ℕ) (events : List Event) (bytes : List ℕ) (line : ℕ) : Type 0 where
+  pub rest : List ℕ
+  pub text : bytes ≡ text_of (event_lines events) ++ rest
+  pub number : line ≡ length events + 2
+  pub some : rest ≡ [] → ⊥
+  pub none : (e : Event) (more : List ℕ) → IsEntry v e → rest ≡ part_bytes (Line (words_of e)) ++ more → ⊥
 
 -- ---- the event of a line
 
