@@ -55,3 +55,4 @@ pub mod AnswerShown
 pub mod Dropping
 pub mod ReapEvent
 pub mod BeginVm
+pub mod PostInterrupt
