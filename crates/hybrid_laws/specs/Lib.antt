@@ -56,3 +56,4 @@ pub mod Dropping
 pub mod ReapEvent
 pub mod BeginVm
 pub mod PostInterrupt
+pub mod InterruptEvent
