@@ -57,3 +57,5 @@ pub mod ReapEvent
 pub mod BeginVm
 pub mod PostInterrupt
 pub mod InterruptEvent
+pub mod RoundOver
+pub mod Adding
