@@ -59,3 +59,4 @@ pub mod PostInterrupt
 pub mod InterruptEvent
 pub mod RoundOver
 pub mod Adding
+pub mod Effects
