@@ -17,7 +17,7 @@ use Rattle.std.proofs.lemmas.Bool.Decides.{nat_tests}
 use Rattle.std.specs.Prelude.{zero, suc, Bool, List, None, Option, Some, [], cond, false, if◌then◌else◌, length, nat_lt, true, ℕ, ◌+◌, ◌==◌, ◌∷◌, ◌≡◌, ◌<◌}
 
 -- ---- rows
-drop_other : (i j : ℕ) (sp : Space) → (j == i) ≡ false → at (drop_page i sp).table j ≡ at sp.table j
+pub drop_other : (i j : ℕ) (sp : Space) → (j == i) ≡ false → at (drop_page i sp).table j ≡ at sp.table j
 unfolding drop_page
 drop_other i j sp e = ap (λ (m : Reads Row). m j) (reads-cut sp.table i) ∙ rw e refl
 
@@ -30,7 +30,7 @@ drops_outside (suc n) low j sp o = drops_outside n (suc low) j (drop_page low sp
     not_low : (n low j : ℕ) → in_range (range low (low + suc n)) j ≡ false → (j == low) ≡ false
     not_low n low j o = grind (arith, nat_tests, o)
 
-drop_frames : (i : ℕ) (sp : Space) → (drop_page i sp).frames ≡ sp.frames
+pub drop_frames : (i : ℕ) (sp : Space) → (drop_page i sp).frames ≡ sp.frames
 unfolding drop_page
 drop_frames i sp = refl
 

@@ -75,3 +75,8 @@ pub mod AnswerShown
 pub mod Dropping
 pub mod ReapEvent
 pub mod BeginVm
+pub mod PostInterrupt
+pub mod InterruptEvent
+pub mod RoundOver
+pub mod Adding
+pub mod Effects

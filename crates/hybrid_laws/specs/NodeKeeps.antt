@@ -119,44 +119,41 @@ closing-same a b (Unmap r) e = refl
 closing-same a b (Protect r rights) e = refl
 closing-same a b (Brk x) e = ap (λ (h : ℕ). range (page_end x) (page_number (h + most_heap))) e
 
--- ---- the process whose side stays
+-- ---- the process whose side stays, where no free thread of it is Called
 module _ (p : ℕ) (free : ℕ → Bool) (threads threads' : Reads Thread)
-  (idle : (u : ℕ) (x : Thread) → free u ≡ true → threads u ≡ Some x → x.process ≡ p → is_pinned x.does ≡ false)
+  (idle : (u : ℕ) (x : Thread) → free u ≡ true → threads u ≡ Some x → x.process ≡ p → is_called x.does ≡ false)
   (keeps : (u : ℕ) → ThreadKeeps p (free u) (threads u) (threads' u)) where
-  pub pinned-stays : (u : ℕ) (x : Thread) → threads u ≡ Some x → x.process ≡ p → is_pinned x.does ≡ true → (y : Thread) × (threads' u ≡ Some y) × (y.process ≡ p) × (y.place ≡ x.place) × (y.does ≡ x.does)
-  pinned-stays u x e own k = (keeps u).kept x e own (not-free (free u) refl) k
+  pub called-stays : (u : ℕ) (x : Thread) → threads u ≡ Some x → x.process ≡ p → is_called x.does ≡ true → (y : Thread) × (threads' u ≡ Some y) × (y.process ≡ p) × (y.place ≡ x.place) × (y.does ≡ x.does)
+  called-stays u x e own k = (keeps u).kept x e own (not-free (free u) refl) (rw k refl)
     where
       not-free : (b : Bool) → free u ≡ b → free u ≡ false
       not-free false f = f
       not-free true f = absurd (let i = idle u x f e own in grind (arith, i, k))
 
   module _ (callers : Reads Caller) (agree : CallsAgree p threads callers) where
-    caller-thread : (u : ℕ) (c : Caller) → callers u ≡ Some c → (x : Thread) × (threads u ≡ Some x) × (x.process ≡ p) × (is_pinned x.does ≡ true) × (is_called x.does ≡ true)
-    caller-thread u c e =
-      let k = agree.there u c e in
-      let l : is_called k.0.does ≡ true = agree.called u k.0 k.1 k.2 ∙ ap is_some e in
-      (k.0, k.1, k.2, rw l refl, l)
+    caller-thread : (u : ℕ) (c : Caller) → callers u ≡ Some c → (x : Thread) × (threads u ≡ Some x) × (x.process ≡ p) × (is_called x.does ≡ true)
+    caller-thread u c e = let k = agree.there u c e in (k.0, k.1, k.2, agree.called u k.0 k.1 k.2 ∙ ap is_some e)
 
     pub places-stay : (u : ℕ) (c : Caller) → callers u ≡ Some c → (k : ℕ) → place_in k (threads' u) ≡ place_in k (threads u)
     places-stay u c e k =
       let x = caller-thread u c e in
-      let y = pinned-stays u x.0 x.1 x.2 x.3 in
+      let y = called-stays u x.0 x.1 x.2 x.3 in
       let a = y.1 in let b = x.1 in let d = y.3 in rw (a, b, d) refl
 
     pub calls-stay : CallsAgree p threads' callers
     calls-stay = record {
       called = λ u y e own. go u y e own (is_called y.does) refl (callers u) refl;
-      there = λ u c e. let x = caller-thread u c e in let y = pinned-stays u x.0 x.1 x.2 x.3 in (y.0, y.1, y.2) }
+      there = λ u c e. let x = caller-thread u c e in let y = called-stays u x.0 x.1 x.2 x.3 in (y.0, y.1, y.2) }
       where
         go : (u : ℕ) (y : Thread) → threads' u ≡ Some y → y.process ≡ p → (b : Bool) → is_called y.does ≡ b → (o : Option Caller) → callers u ≡ o → b ≡ is_some o
         go u y e own true f o g = let x = (keeps u).called y e own f in sym x.3 ∙ agree.called u x.0 x.1 x.2 ∙ ap is_some g
         go u y e own false f None g = refl
         go u y e own false f (Some c) g =
           let x = caller-thread u c g in
-          let z = pinned-stays u x.0 x.1 x.2 x.3 in
+          let z = called-stays u x.0 x.1 x.2 x.3 in
           let o = sym z.1 ∙ e in
           let s : z.0 ≡ y = cc in
-          absurd (let t = sym (ap is_called z.4 ∙ x.4) ∙ ap (λ (w : Thread). is_called w.does) s ∙ f in grind (arith, t))
+          absurd (let t = sym (ap is_called z.4 ∙ x.3) ∙ ap (λ (w : Thread). is_called w.does) s ∙ f in grind (arith, t))
 
 -- the round's thread stays, where no free thread of the process is InVm
 module _ (p : ℕ) (free : ℕ → Bool) (threads threads' : Reads Thread)
@@ -184,18 +181,26 @@ no-change (Stopped s) e = refl
 no-change (Asleep a) e = refl
 no-change (InWait n s) e = refl
 
+pub no-call : (d : Does) → is_pinned d ≡ false → is_called d ≡ false
+no-call Called e = absurd (grind (arith, e))
+no-call (InVm c) e = refl
+no-call Ready e = refl
+no-call (Stopped s) e = refl
+no-call (Asleep a) e = refl
+no-call (InWait n s) e = refl
+
 module _ (p : ℕ) (free : ℕ → Bool) (side : Side) (node node' : Node) (worker_count : ℕ) (ring_of : ℕ → ℕ) (k : Keeps p free node node')
   (idle : (u : ℕ) (x : Thread) → free u ≡ true → at node.threads u ≡ Some x → x.process ≡ p → is_pinned x.does ≡ false) where
   -- what holds of a process stays where its own part does, and the node changes so
   pub node-keeps : OfProcess p side node worker_count ring_of → OfProcess p side node' worker_count ring_of
   node-keeps h =
     let live : (q : ℕ) → is_live (state_at (at side.book.rows) q) ≡ true → (c : Caller) × (at side.lwk.callers (tid_in (at side.book.rows q)) ≡ Some c) = λ q l. calls-found q (at side.lwk.callers (tid_in (at side.book.rows q))) (h.answered.live q l) in
-    let stays = places-stay p free (at node.threads) (at node'.threads) idle k.threads (at side.lwk.callers) h.calls in
+    let stays = places-stay p free (at node.threads) (at node'.threads) (λ u x f e own. no-call x.does (idle u x f e own)) k.threads (at side.lwk.callers) h.calls in
     record {
       covered = h.covered; rounded = h.rounded;
       owned = owned-keeps p free (at node.threads) (at node'.threads) (λ u x f e own. no-change x.does (idle u x f e own)) k.threads (process_of node p) (process_of node' p) k.heap side.round side.lwk.changing h.owned;
       served = h.served; answered = h.answered;
-      calls = calls-stay p free (at node.threads) (at node'.threads) idle k.threads (at side.lwk.callers) h.calls;
+      calls = calls-stay p free (at node.threads) (at node'.threads) (λ u x f e own. no-call x.does (idle u x f e own)) k.threads (at side.lwk.callers) h.calls;
       asked = h.asked;
       interrupts = interrupts-stay (at side.book.rows) (at side.lwk.callers) (at node.threads) (at node'.threads) stays live side.book.next side.to_linux h.interrupts;
       directions = h.directions;

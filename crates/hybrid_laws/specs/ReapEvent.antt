@@ -61,7 +61,7 @@ module _ {V W : Type 0} (f : V → W) where
   count-entries [] s = finmap.len-empty nat_cmp W
   count-entries (e ∷ es) s =
     let a = both (fin.below_all nat_cmp e.0 es) (fin.is_sorted nat_cmp es) s in
-    let n : at (collect_entries kept es) e.0 ≡ None = at-collect_entries kept es e.0 ∙ ap (λ o. and_then o (kept e.0)) (none-below (λ (v : V). 0) e.0 e.0 es (le-refl e.0) a.0) in
+    let n : at (collect_entries kept es) e.0 ≡ None = at-collect_entries kept es e.0 ∙ ap (λ o. and_then o (kept e.0)) (none-below (λ (v : ℕ × V). 0) e.0 e.0 es (le-refl e.0) a.0) in
     finmap.len-insert nat_cmp_total (collect_entries kept es) e.0 (f e.1) ∙ ap (λ (o : Option W). cond (is_some o) (count (collect_entries kept es)) (count (collect_entries kept es) + 1)) n ∙ more (count-entries es a.1)
     where
       le-refl : (n : ℕ) → n ≤ n
