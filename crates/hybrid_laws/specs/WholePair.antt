@@ -5,7 +5,7 @@ use Rattle.hybrid_laws.specs.OneRequest.{files-any}
 use Rattle.hybrid_laws.specs.Tests.{both, not-true}
 use Rattle.hybrid_laws.specs.Totals.{total-put}
 use Rattle.hybrid_model.specs.Coherence.{OfProcess}
-use Rattle.hybrid_model.specs.Globals.{Coherent, DescriptionsHeld, Empty, Frames, FramesCounted, Known, TurnsHold, holders, ring_number, table_of, CallsHold, NumbersOnce}
+use Rattle.hybrid_model.specs.Globals.{Coherent, DescriptionsHeld, Empty, Frames, FramesCounted, Known, TurnsHold, holders, ring_number, table_of, CallsHold}
 use Rattle.hybrid_model.specs.Pairs.{Here, Pair, here, put_here, side_of}
 use Rattle.hybrid_model.specs.Sides.{Row, Side, Turn, new_side}
 use Rattle.hybrid_model.specs.Tallies.{Reads}
@@ -95,8 +95,8 @@ module _ (pair : Pair) (c : Coherent pair) (p : ℕ) (there : is_there pair.node
         go true e = let y : p ≡ q = grind (arith, nat_tests, e) in sym (there-has pair.node p there) ∙ ap (has_process pair.node) y
         go false e = c.known.sides_are q
 
-    pub coherent-after : TurnsHold pair_after → DescriptionsHeld pair_after → NumbersOnce files → CallsHold side → Coherent pair_after
-    coherent-after turns_hold held once calls = record {
+    pub coherent-after : TurnsHold pair_after → DescriptionsHeld pair_after → CallsHold side → Coherent pair_after
+    coherent-after turns_hold held calls = record {
       whole = of-sides (λ q s. OfProcess q s (set_files files pair.node) pair.workers (ring_number pair)) kept (λ q e. files-any q (side_of pair q) pair.node pair.workers (ring_number pair) files (c.whole q));
       frames = subst (λ (t : ℕ → Reads Row). Frames t pair.free) (sym tables-same) c.frames;
       counted = counted;
@@ -104,7 +104,6 @@ module _ (pair : Pair) (c : Coherent pair) (p : ℕ) (there : is_there pair.node
       turns = turns_hold;
       rings = record { cores = c.rings.cores; rings = c.rings.rings; each = each-rings };
       held = held;
-      descriptions = once;
       calls = of-sides (λ q s. CallsHold s) calls (λ q e. c.calls q);
       known = record { threads_below = c.known.threads_below; threads_there = c.known.threads_there; processes_below = c.known.processes_below; sides_are = sides-are };
       sleeping = record { asleep = c.sleeping.asleep; once = c.sleeping.once };

@@ -42,7 +42,7 @@ module _ (pair : Pair) (c : Coherent pair) (p : ℕ) (there : is_there pair.node
   pub coherent-silent : TurnsHold (pair_after pair c p there side pair.node.files pair.frames turns) → Coherent (pair_after pair c p there side pair.node.files pair.frames turns)
   coherent-silent turns_hold = coherent-after pair c p there side pair.node.files pair.frames turns kept table next rings turns_hold
     (held-after pair c p there side pair.node.files pair.frames turns (λ d. ap (λ n. (description_of pair.node.files d).calls + n) (sym (holders-shown pair.frames side (side_of pair p) callers shown d))))
-    c.descriptions (calls-stay side (side_of pair p) callers (statuses-shown pair.frames side (side_of pair p) callers shown) (c.calls p))
+    (calls-stay side (side_of pair p) callers (statuses-shown pair.frames side (side_of pair p) callers shown) (c.calls p))
 
 -- the turns stay, where each request that waits or is held stays so, and is as far as it was
 module _ (pair : Pair) (c : Coherent pair) (p : ℕ) (there : is_there pair.node p ≡ true) (side : Side) where

@@ -117,7 +117,7 @@ module _ (pair : Pair) (c : Coherent pair) (q : Pid) (n : Req) (e : may pair (Ev
   coherent_unpark = coherent-after pair c p there side' pair.node.files pair.frames (turns_after_unpark p h.side.linux h.node.files h.turns n.0) (keeps_unpark p h (ring_number pair) k n allowed) refl refl refl
     (turns-of (may_take_turn p h.side.linux h.node.files h.turns n.0))
     (held-after pair c p there side' pair.node.files pair.frames (turns_after_unpark p h.side.linux h.node.files h.turns n.0) (λ d. ap (λ j. (description_of pair.node.files d).calls + j) (sym (holders-same side' h.side refl (λ t x f. held-same x.request) d))))
-    c.descriptions calls-now
+    calls-now
 
   thread-own : (thread_of pair.node m.call.tid.0).process ≡ p
   thread-own = let t = the-thread p h.side h.node h.workers (ring_number pair) k n.0 Parked m.call m.is refl in ap (λ (o : Option Thread). (unwrap_or o no_thread).process) t.1 ∙ t.2

@@ -2,7 +2,7 @@
 use Rattle.hybrid_model.specs.Coherence.{OfProcess}
 use Rattle.hybrid_model.specs.Pairs.{Pair, side_of}
 use Rattle.hybrid_model.specs.Rings.{all_empty}
-use Rattle.file_model.specs.Files.{Files, Description, description_of}
+use Rattle.file_model.specs.Files.{description_of}
 use Rattle.hybrid_model.specs.Linux.{pipe_end}
 use Rattle.hybrid_model.specs.Shown.{status_of}
 use Rattle.hybrid_model.specs.Sides.{Side, Row, Turn, Caller, state_of, service_of}
@@ -82,10 +82,6 @@ holders d s = count_by (λ (c : ℕ × Caller). is_number d (description_held (s
 abbrev pub DescriptionsHeld : Pair → Type 0
 DescriptionsHeld pair = (d : ℕ) → (description_of pair.node.files d).calls ≡ total (holders d) pair.sides
 
--- no two descriptions have one number
-abbrev pub NumbersOnce : Files → Type 0
-NumbersOnce files = (d : ℕ) → count_by (λ (x : Description). x.number == d) files.descriptions ≤ 1
-
 -- ---- calls
 
 -- the acts that are before a call
@@ -160,7 +156,6 @@ pub record Coherent (pair : Pair) : Type 0 where
   pub turns : TurnsHold pair
   pub rings : RingsAre pair
   pub held : DescriptionsHeld pair
-  pub descriptions : NumbersOnce pair.node.files
   pub calls : (p : ℕ) → CallsHold (side_of pair p)
   pub known : Known pair
   pub sleeping : Sleeping pair.node

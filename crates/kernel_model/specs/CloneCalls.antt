@@ -30,24 +30,28 @@ abbrev pub cloned_thread : Node → Thread → ℕ → ℕ → ℕ → ℕ → T
 cloned_thread node x flags stack tls child_tid = record x {
   place = lowest_free_place node x.process;
   regs = set_reg 10 0 (cond (stack == 0) (cond (has_bit 19 flags) (set_reg 4 tls x.regs) x.regs)
-    (set_reg 2 stack (cond (has_bit 19 flags) (set_reg 4 tls x.regs) x.regs)));
-  pending = 0; clear_address = cond (has_bit 21 flags) child_tid 0; back = false; does = Ready }
+      (set_reg 2 stack (cond (has_bit 19 flags) (set_reg 4 tls x.regs) x.regs)));
+  pending = 0;
+  clear_address = cond (has_bit 21 flags) child_tid 0;
+  back = false;
+  does = Ready;
+}
 
 abbrev pub with_thread : Thread → Node → Node
 with_thread x node = record node { threads = put node.threads node.next_number x; next_number = node.next_number + 1 }
 
 abbrev pub clones : ℕ → ℕ → ℕ → ℕ → ℕ → ℕ → View → View
 clones t flags stack parent_tid tls child_tid v =
-  let n = v.node.next_number in
-  let made = on_node (with_thread (cloned_thread v.node (thread_of v.node t) flags stack tls child_tid)) v in
-  let told = cond (has_bit 20 flags) (try_store parent_tid (little_endian 4 n) made) made in
-  answers t (pos n) (cond (has_bit 24 flags) (try_store child_tid (little_endian 4 n) told) told)
+    let n = v.node.next_number in
+    let made = on_node (with_thread (cloned_thread v.node (thread_of v.node t) flags stack tls child_tid)) v in
+    let told = cond (has_bit 20 flags) (try_store parent_tid (little_endian 4 n) made) made in
+    answers t (pos n) (cond (has_bit 24 flags) (try_store child_tid (little_endian 4 n) told) told)
 
 abbrev pub clone : ℕ → ℕ → ℕ → ℕ → ℕ → ℕ → View → View
 clone t flags stack parent_tid tls child_tid v =
-  cond (not (are_clone_flags flags)) (refuses t EINVAL v)
-  (cond (nat_le most_threads (length (threads_of v.node (thread_of v.node t).process))) (refuses t EAGAIN v)
-  (clones t flags stack parent_tid tls child_tid v))
+    cond (not (are_clone_flags flags)) (refuses t EINVAL v)
+    (cond (nat_le most_threads (length (threads_of v.node (thread_of v.node t).process))) (refuses t EAGAIN v)
+    (clones t flags stack parent_tid tls child_tid v))
 
 -- ---- fork
 
@@ -63,27 +67,34 @@ child_process parent p = record p { parent = parent; waited = false; first_code 
 
 abbrev pub child_regs : ℕ → ℕ → ℕ → Regs → Regs
 child_regs flags stack tls r =
-  let s = cond (has_bit 19 flags) (set_reg 4 tls r) r in
-  set_reg 10 0 (cond (stack == 0) s (set_reg 2 stack s))
+    let s = cond (has_bit 19 flags) (set_reg 4 tls r) r in
+    set_reg 10 0 (cond (stack == 0) s (set_reg 2 stack s))
 
 abbrev pub child_thread : Thread → ℕ → ℕ → ℕ → ℕ → ℕ → Thread
 child_thread x child flags stack tls child_tid = record x {
-  process = child; place = 0; regs = child_regs flags stack tls x.regs; pending = 0;
-  clear_address = cond (has_bit 21 flags) child_tid 0; back = false; does = Ready }
+  process = child;
+  place = 0;
+  regs = child_regs flags stack tls x.regs;
+  pending = 0;
+  clear_address = cond (has_bit 21 flags) child_tid 0;
+  back = false;
+  does = Ready;
+}
 
 abbrev pub with_child : ℕ → ℕ → ℕ → ℕ → ℕ → ℕ → Node → Node
 with_child t child flags stack tls child_tid node =
-  let x = thread_of node t in
-  record node {
-    processes = put node.processes child (child_process x.process (process_of node x.process));
-    threads = put node.threads child (child_thread x child flags stack tls child_tid);
-    files = share x.process child node.files;
-    next_number = node.next_number + 1 }
+    let x = thread_of node t in
+    record node {
+      processes = put node.processes child (child_process x.process (process_of node x.process));
+      threads = put node.threads child (child_thread x child flags stack tls child_tid);
+      files = share x.process child node.files;
+      next_number = node.next_number + 1;
+    }
 
 -- the child has its parent's memory; what is stored there besides
 abbrev pub child_stores : ℕ → ℕ → ℕ → Memory → List Store
 child_stores child flags child_tid m =
-  cond (has_bit 24 flags && may_access m Write child_tid 4) (record { address = child_tid; bytes = little_endian 4 child } ∷ []) []
+    cond (has_bit 24 flags && may_access m Write child_tid 4) (record { address = child_tid; bytes = little_endian 4 child } ∷ []) []
 
 -- What a call that may make a process comes to: it is done; or a process begins, with a copy of the caller's memory after its stores, and stores of its own.
 pub data Cloned : Type 0 where
@@ -92,20 +103,20 @@ pub data Cloned : Type 0 where
 
 abbrev pub forks : ℕ → ℕ → ℕ → ℕ → ℕ → ℕ → View → Cloned
 forks t flags stack parent_tid tls child_tid v =
-  let child = v.node.next_number in
-  let told = cond (has_bit 20 flags) (try_store parent_tid (little_endian 4 child) v) v in
-  Born (answers t (pos child) (on_node (with_child t child flags stack tls child_tid) told)) child (child_stores child flags child_tid v.memory)
+    let child = v.node.next_number in
+    let told = cond (has_bit 20 flags) (try_store parent_tid (little_endian 4 child) v) v in
+    Born (answers t (pos child) (on_node (with_child t child flags stack tls child_tid) told)) child (child_stores child flags child_tid v.memory)
 
 abbrev pub fork : ℕ → ℕ → ℕ → ℕ → ℕ → ℕ → ℕ → View → Cloned
 fork t free flags stack parent_tid tls child_tid v =
-  cond (nat_le most_processes (count v.node.processes)) (CallDone (refuses t EAGAIN v))
-  (cond (nat_lt free (count v.memory)) (CallDone (refuses t ENOMEM v))
-  (forks t flags stack parent_tid tls child_tid v))
+    cond (nat_le most_processes (count v.node.processes)) (CallDone (refuses t EAGAIN v))
+    (cond (nat_lt free (count v.memory)) (CallDone (refuses t ENOMEM v))
+    (forks t flags stack parent_tid tls child_tid v))
 
 -- clone, with so many frames free
 abbrev pub clone_or_fork : ℕ → ℕ → ℕ → ℕ → ℕ → ℕ → ℕ → View → Cloned
 clone_or_fork t free flags stack parent_tid tls child_tid v =
-  cond (are_fork_flags flags) (fork t free flags stack parent_tid tls child_tid v) (CallDone (clone t flags stack parent_tid tls child_tid v))
+    cond (are_fork_flags flags) (fork t free flags stack parent_tid tls child_tid v) (CallDone (clone t flags stack parent_tid tls child_tid v))
 
 -- ---- wait4 and getppid
 
@@ -145,10 +156,10 @@ noted_waited child v = on_node (change_process child (λ (x : Process). record x
 -- the end of a child is told, and is noted as waited for in every case
 abbrev pub tells_end : ℕ → ℕ → ℕ → View → View
 tells_end t child status v =
-  let word = little_endian 4 (status_of_life (process_of v.node child).life) in
-  cond (status == 0) (answers t (pos child) (noted_waited child v))
-  (cond (may_access v.memory Write status 4) (store status word (answers t (pos child) (noted_waited child v)))
-  (refuses t EFAULT (noted_waited child v)))
+    let word = little_endian 4 (status_of_life (process_of v.node child).life) in
+    cond (status == 0) (answers t (pos child) (noted_waited child v))
+    (cond (may_access v.memory Write status 4) (store status word (answers t (pos child) (noted_waited child v)))
+    (refuses t EFAULT (noted_waited child v)))
 
 -- the lowest child that is Ended, or the refusal where no child is selected
 abbrev pub waits_for : ℕ → ℤ → ℕ → View → Option ℕ → View
@@ -167,11 +178,11 @@ begins_wait t pid status options v = cond (has_bit 0 options) (answers t (pos 0)
 
 abbrev pub wait4 : ℕ → ℤ → ℕ → ℕ → ℕ → View → View
 wait4 t pid status options rusage v =
-  let p = (thread_of v.node t).process in
-  cond (not (minus options 11 == 0)) (refuses t EINVAL v)
-  (cond (not (rusage == 0)) (refuses t ENOSYS v)
-  (cond (may_end_wait v.node p pid) (wait_over t pid status v)
-  (begins_wait t pid status options v)))
+    let p = (thread_of v.node t).process in
+    cond (not (minus options 11 == 0)) (refuses t EINVAL v)
+    (cond (not (rusage == 0)) (refuses t ENOSYS v)
+    (cond (may_end_wait v.node p pid) (wait_over t pid status v)
+    (begins_wait t pid status options v)))
 
 -- the parent's number, or 0 where it is Ended or there is none
 abbrev pub parent_number : Node → ℕ → ℕ

@@ -18,8 +18,8 @@ use Rattle.std.specs.Prelude.{ℕ, ◌+◌, ◌-◌, ◌*◌, ◌/◌, max, List
 -- the bytes of a segment's page: those of its file part that lie there, and zeros
 abbrev segment_page : Segment → ℕ → List ℕ
 segment_page s page =
-  let start = page * page_size in
-  take page_size (replicate (s.addr - start) 0 ++ drop (start - s.addr) s.bytes ++ zero_page)
+    let start = page * page_size in
+    take page_size (replicate (s.addr - start) 0 ++ drop (start - s.addr) s.bytes ++ zero_page)
 
 abbrev page_with : Rights → List ℕ → Page
 page_with rights bytes = record { rights = rights; bytes = bytes }
@@ -63,12 +63,12 @@ addresses_from a (s ∷ ss) = a ∷ addresses_from (a + length s + 1) ss
 -- the count, the argument addresses, two zeros, and the pairs PHDR, PHENT, PHNUM, PAGESZ, ENTRY, RANDOM and the null pair
 abbrev stack_words : Image → List (List ℕ) → List ℕ
 stack_words image arguments =
-  length arguments ∷ addresses_from (strings_address arguments) arguments
-  ++ (0 ∷ 0 ∷ 3 ∷ image.phdr ∷ 4 ∷ 56 ∷ 5 ∷ image.phnum ∷ 6 ∷ page_size ∷ 9 ∷ image.entry ∷ 25 ∷ auxiliary_bytes ∷ 0 ∷ 0 ∷ [])
+    length arguments ∷ addresses_from (strings_address arguments) arguments
+    ++ (0 ∷ 0 ∷ 3 ∷ image.phdr ∷ 4 ∷ 56 ∷ 5 ∷ image.phnum ∷ 6 ∷ page_size ∷ 9 ∷ image.entry ∷ 25 ∷ auxiliary_bytes ∷ 0 ∷ 0 ∷ [])
 
 abbrev with_stack_top : Image → List (List ℕ) → Memory → Memory
 with_stack_top image arguments m =
-  write_bytes (write_bytes (write_bytes m auxiliary_bytes (count_from 0 16))
+    write_bytes (write_bytes (write_bytes m auxiliary_bytes (count_from 0 16))
     (strings_address arguments) (strings arguments))
     (stack_pointer arguments) (flat_map (little_endian 8) (stack_words image arguments))
 

@@ -19,10 +19,13 @@ use Rattle.std.specs.Prelude.{find, Bool, List, None, Option, Some, cond, false,
 
 abbrev pub lowest_address : ℕ
 lowest_address = 0x10000
+
 abbrev pub highest_address : ℕ
 highest_address = 0x3ffffff000
+
 abbrev pub highest_gap_end : ℕ
 highest_gap_end = 0x3f00000000
+
 abbrev pub most_heap : ℕ
 most_heap = 0x4000000
 
@@ -110,7 +113,10 @@ effect_of p (Protect r rights) = record { dropped = nothing; added = nothing; pr
 effect_of p (Brk a) = record {
   dropped = range (page_end a) (page_end p.program_break);
   added = range (page_end p.program_break) (page_end a);
-  protected = nothing; rights = heap_rights; program_break = a }
+  protected = nothing;
+  rights = heap_rights;
+  program_break = a;
+}
 
 -- what the call answers once its change is made
 abbrev pub answer_of_change : Change → ℤ
@@ -140,55 +146,55 @@ exceeds m free r = nat_lt (free + count_present m r) (pages_count r)
 
 abbrev pub map_fixed : Memory → ℕ → PageRange → Rights → Decision
 map_fixed m free r rights =
-  cond (nat_lt 0 (count_present m r)) (Round (ChangeMap r rights))
-  (cond (exceeds m free r) (refuse ENOMEM) (Now (ChangeMap r rights)))
+    cond (nat_lt 0 (count_present m r)) (Round (ChangeMap r rights))
+    (cond (exceeds m free r) (refuse ENOMEM) (Now (ChangeMap r rights)))
 
 abbrev pub map_anywhere : Memory → ℕ → ℕ → Rights → Decision
 map_anywhere m free n rights =
-  cond (nat_lt free n) (refuse ENOMEM)
-  (elim (highest_gap m n) [ None ↦ refuse ENOMEM | Some high ↦ Now (ChangeMap (gap_below n high) rights) ])
+    cond (nat_lt free n) (refuse ENOMEM)
+    (elim (highest_gap m n) [ None ↦ refuse ENOMEM | Some high ↦ Now (ChangeMap (gap_below n high) rights) ])
 
 abbrev pub is_fixed : ℕ → Bool
 is_fixed flags = has_bit 4 flags
 
 abbrev pub mmap : Memory → ℕ → ℕ → ℕ → ℕ → ℕ → Decision
 mmap m free address len prot flags =
-  cond (len == 0 || nat_lt 7 prot || not (flags % 4 == 2) || not (has_bit 5 flags)
-      || (is_fixed flags && (not (is_aligned address) || not (is_inside address len)))) (refuse EINVAL)
-  (cond (is_fixed flags) (map_fixed m free (range_for address len) (rights_of_prot prot))
-  (map_anywhere m free (pages_for len) (rights_of_prot prot)))
+    cond (len == 0 || nat_lt 7 prot || not (flags % 4 == 2) || not (has_bit 5 flags)
+    || (is_fixed flags && (not (is_aligned address) || not (is_inside address len)))) (refuse EINVAL)
+    (cond (is_fixed flags) (map_fixed m free (range_for address len) (rights_of_prot prot))
+    (map_anywhere m free (pages_for len) (rights_of_prot prot)))
 
 abbrev pub munmap : Memory → ℕ → ℕ → Decision
 munmap m address len =
-  cond (not (is_aligned address) || len == 0 || not (is_inside address len)) (refuse EINVAL)
-  (cond (nat_lt 0 (count_present m (range_for address len))) (Round (Unmap (range_for address len))) (Reply (pos 0)))
+    cond (not (is_aligned address) || len == 0 || not (is_inside address len)) (refuse EINVAL)
+    (cond (nat_lt 0 (count_present m (range_for address len))) (Round (Unmap (range_for address len))) (Reply (pos 0)))
 
 abbrev pub protect_range : Memory → PageRange → Rights → Decision
 protect_range m r rights =
-  cond (any_lessened m r rights) (Round (Protect r rights))
-  (cond (all_present m r) (Now (Protect r rights)) (refuse ENOMEM))
+    cond (any_lessened m r rights) (Round (Protect r rights))
+    (cond (all_present m r) (Now (Protect r rights)) (refuse ENOMEM))
 
 abbrev pub mprotect : Memory → ℕ → ℕ → ℕ → Decision
 mprotect m address len prot =
-  cond (not (is_aligned address) || nat_lt 7 prot) (refuse EINVAL)
-  (cond (len == 0) (Reply (pos 0))
-  (cond (not (is_inside address len)) (refuse ENOMEM)
-  (protect_range m (range_for address len) (rights_of_prot prot))))
+    cond (not (is_aligned address) || nat_lt 7 prot) (refuse EINVAL)
+    (cond (len == 0) (Reply (pos 0))
+    (cond (not (is_inside address len)) (refuse ENOMEM)
+    (protect_range m (range_for address len) (rights_of_prot prot))))
 
 abbrev pub brk_up : Process → Memory → ℕ → ℕ → Decision
 brk_up p m free a =
-  let r = range (page_end p.program_break) (page_end a) in
-  cond (nat_lt 0 (count_present m r) || nat_lt free (pages_count r)) (Reply (pos p.program_break)) (Now (Brk a))
+    let r = range (page_end p.program_break) (page_end a) in
+    cond (nat_lt 0 (count_present m r) || nat_lt free (pages_count r)) (Reply (pos p.program_break)) (Now (Brk a))
 
 abbrev pub brk_down : Process → Memory → ℕ → Decision
 brk_down p m a =
-  let r = range (page_end a) (page_end p.program_break) in
-  round_or_now (nat_lt 0 (count_present m r)) (Brk a)
+    let r = range (page_end a) (page_end p.program_break) in
+    round_or_now (nat_lt 0 (count_present m r)) (Brk a)
 
 abbrev pub brk : Process → Memory → ℕ → ℕ → Decision
 brk p m free a =
-  cond (nat_lt a p.heap_base || nat_lt (p.heap_base + most_heap) a) (Reply (pos p.program_break))
-  (cond (nat_lt a p.program_break) (brk_down p m a) (brk_up p m free a))
+    cond (nat_lt a p.heap_base || nat_lt (p.heap_base + most_heap) a) (Reply (pos p.program_break))
+    (cond (nat_lt a p.program_break) (brk_down p m a) (brk_up p m free a))
 
 -- an int argument that has to be from 0 to 7: its low 32 bits
 abbrev pub low_word : ℕ → ℕ
@@ -196,14 +202,14 @@ low_word n = n % 2 ^ 32
 
 abbrev pub decide : Process → Memory → ℕ → ℕ → List ℕ → Decision
 decide p m free number arguments =
-  let a0 = get_or arguments 0 0 in
-  let a1 = get_or arguments 1 0 in
-  let a2 = get_or arguments 2 0 in
-  let a3 = get_or arguments 3 0 in
-  cond (number == 222) (mmap m free a0 a1 (low_word a2) (low_word a3))
-  (cond (number == 215) (munmap m a0 a1)
-  (cond (number == 226) (mprotect m a0 a1 (low_word a2))
-  (brk p m free a0)))
+    let a0 = get_or arguments 0 0 in
+    let a1 = get_or arguments 1 0 in
+    let a2 = get_or arguments 2 0 in
+    let a3 = get_or arguments 3 0 in
+    cond (number == 222) (mmap m free a0 a1 (low_word a2) (low_word a3))
+    (cond (number == 215) (munmap m a0 a1)
+    (cond (number == 226) (mprotect m a0 a1 (low_word a2))
+    (brk p m free a0)))
 
 -- ---- finishing a round: a refusal, or none where the change is made
 abbrev pub refusal_at_end : Process → Memory → ℕ → Change → Option ℤ

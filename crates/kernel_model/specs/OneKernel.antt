@@ -118,8 +118,13 @@ abbrev pub boot_node : Job → List Image → Node
 boot_node job images = record {
   processes = by_guest guest_process (guests_of job images);
   threads = by_guest guest_thread (guests_of job images);
-  sleepers = []; files = boot_files job; unsent = script_lines 0 job.signals;
-  next_number = first_free_number; frame_count = job.frames; limit = job.limit }
+  sleepers = [];
+  files = boot_files job;
+  unsent = script_lines 0 job.signals;
+  next_number = first_free_number;
+  frame_count = job.frames;
+  limit = job.limit;
+}
 
 abbrev guest_own : Guest → Own
 guest_own g = record { memory = guest_memory g.image g.arguments; calls = no_rows }
@@ -132,4 +137,5 @@ abbrev pub boot : Job → List Image → OneKernel
 boot job images = record {
   node = boot_node job images;
   own = by_guest guest_own (guests_of job images);
-  free = job.frames - rows_of_guests (guests_of job images) }
+  free = job.frames - rows_of_guests (guests_of job images);
+}

@@ -21,32 +21,46 @@ pub data Plan : Type 0 where
 
 abbrev pub openat_call : ℕ
 openat_call = 56
+
 abbrev pub mkdirat_call : ℕ
 mkdirat_call = 34
+
 abbrev pub unlinkat_call : ℕ
 unlinkat_call = 35
+
 abbrev pub close_call : ℕ
 close_call = 57
+
 abbrev pub lseek_call : ℕ
 lseek_call = 62
+
 abbrev pub ioctl_call : ℕ
 ioctl_call = 29
+
 abbrev pub pipe2_call : ℕ
 pipe2_call = 59
+
 abbrev pub fstat_call : ℕ
 fstat_call = 80
+
 abbrev pub getdents64_call : ℕ
 getdents64_call = 61
+
 abbrev pub read_call : ℕ
 read_call = 63
+
 abbrev pub write_call : ℕ
 write_call = 64
+
 abbrev pub readv_call : ℕ
 readv_call = 65
+
 abbrev pub writev_call : ℕ
 writev_call = 66
+
 abbrev pub pread64_call : ℕ
 pread64_call = 67
+
 abbrev pub pwrite64_call : ℕ
 pwrite64_call = 68
 
@@ -73,6 +87,7 @@ has_path number = number == openat_call || number == mkdirat_call || number == u
 -- the bytes that one call moves, and the bytes of a path
 abbrev pub most_moved : ℕ
 most_moved = 65_536
+
 abbrev pub most_path : ℕ
 most_path = 4_096
 
@@ -90,23 +105,23 @@ magnitude (negsuc n) = 0
 
 abbrev pub phases_of : ℕ → List ℕ → List Phase
 phases_of number arguments =
-  cond (has_path number) (Gather (one_range (argument arguments 1) most_path) ∷ Act ∷ [])
-  (cond (number == pipe2_call) (Act ∷ Scatter (one_range (argument arguments 0) 8) ∷ [])
-  (cond (number == fstat_call) (Act ∷ Scatter (one_range (argument arguments 1) 128) ∷ [])
-  (cond (number == getdents64_call) (Act ∷ Scatter (one_range (argument arguments 1) (min (argument arguments 2) most_moved)) ∷ [])
-  (cond (has_vectors number) (Act ∷ Gather (one_range (argument arguments 1) (16 * magnitude (int_argument (argument arguments 2)))) ∷ Stream [] ∷ [])
-  (cond (is_read number || is_write number) (Act ∷ Stream (one_range (argument arguments 1) (min (argument arguments 2) most_moved)) ∷ [])
-  (Act ∷ []))))))
+    cond (has_path number) (Gather (one_range (argument arguments 1) most_path) ∷ Act ∷ [])
+    (cond (number == pipe2_call) (Act ∷ Scatter (one_range (argument arguments 0) 8) ∷ [])
+    (cond (number == fstat_call) (Act ∷ Scatter (one_range (argument arguments 1) 128) ∷ [])
+    (cond (number == getdents64_call) (Act ∷ Scatter (one_range (argument arguments 1) (min (argument arguments 2) most_moved)) ∷ [])
+    (cond (has_vectors number) (Act ∷ Gather (one_range (argument arguments 1) (16 * magnitude (int_argument (argument arguments 2)))) ∷ Stream [] ∷ [])
+    (cond (is_read number || is_write number) (Act ∷ Stream (one_range (argument arguments 1) (min (argument arguments 2) most_moved)) ∷ [])
+    (Act ∷ []))))))
 
 abbrev pub delegated_calls : List ℕ
 delegated_calls = 29 ∷ 34 ∷ 35 ∷ 56 ∷ 57 ∷ 59 ∷ 61 ∷ 62 ∷ 63 ∷ 64 ∷ 65 ∷ 66 ∷ 67 ∷ 68 ∷ 80 ∷ []
 
 abbrev pub plan : ℕ → List ℕ → Plan
 plan number arguments =
-  cond (member number local_calls) Local
-  (cond (member number memory_calls) Vm
-  (cond (member number delegated_calls) (Delegated (phases_of number arguments))
-  Unknown))
+    cond (member number local_calls) Local
+    (cond (member number memory_calls) Vm
+    (cond (member number delegated_calls) (Delegated (phases_of number arguments))
+    Unknown))
 
 -- ---- the act of a delegated call
 
@@ -125,14 +140,14 @@ vector_count number arguments = cond (has_vectors number) (int_at arguments 2) (
 
 abbrev pub act_of : ℕ → List ℕ → FileOp
 act_of number arguments =
-  cond (number == openat_call) (Openat (int_at arguments 0) (flags_at arguments 2))
-  (cond (number == mkdirat_call) (Mkdirat (int_at arguments 0))
-  (cond (number == unlinkat_call) (Unlinkat (int_at arguments 0) (flags_at arguments 2))
-  (cond (number == close_call) (Close (int_at arguments 0))
-  (cond (number == lseek_call) (Lseek (int_at arguments 0) (signed 64 (argument arguments 1)) (int_at arguments 2))
-  (cond (number == ioctl_call) (Ioctl (int_at arguments 0))
-  (cond (number == pipe2_call) (Pipe2 (flags_at arguments 1))
-  (cond (number == fstat_call) (Fstat (int_at arguments 0))
-  (cond (number == getdents64_call) (Getdents (int_at arguments 0) (argument arguments 2))
-  (cond (is_read number) (ReadAct (int_at arguments 0) (own_offset number arguments) (vector_count number arguments))
-  (WriteAct (int_at arguments 0) (own_offset number arguments) (vector_count number arguments)))))))))))
+    cond (number == openat_call) (Openat (int_at arguments 0) (flags_at arguments 2))
+    (cond (number == mkdirat_call) (Mkdirat (int_at arguments 0))
+    (cond (number == unlinkat_call) (Unlinkat (int_at arguments 0) (flags_at arguments 2))
+    (cond (number == close_call) (Close (int_at arguments 0))
+    (cond (number == lseek_call) (Lseek (int_at arguments 0) (signed 64 (argument arguments 1)) (int_at arguments 2))
+    (cond (number == ioctl_call) (Ioctl (int_at arguments 0))
+    (cond (number == pipe2_call) (Pipe2 (flags_at arguments 1))
+    (cond (number == fstat_call) (Fstat (int_at arguments 0))
+    (cond (number == getdents64_call) (Getdents (int_at arguments 0) (argument arguments 2))
+    (cond (is_read number) (ReadAct (int_at arguments 0) (own_offset number arguments) (vector_count number arguments))
+    (WriteAct (int_at arguments 0) (own_offset number arguments) (vector_count number arguments)))))))))))

@@ -7,7 +7,6 @@ pub mod steps;
 use isa_model::Stop;
 use mck_flags::{Rights, SigSet};
 use mck_word::{End, PageRange};
-
 pub use ranges::Range;
 pub use steps::Step;
 
