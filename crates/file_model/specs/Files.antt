@@ -154,7 +154,7 @@ made parent name directory files = record files {
 abbrev pub is_named : Files → ℕ → Bool
 is_named files d = some_row (λ process (fds : Map ℕ). some_row (λ fd named. named == d) fds) files.descriptors
 
-abbrev used_description : Files → ℕ → Description → Option Description
+abbrev pub used_description : Files → ℕ → Description → Option Description
 used_description files d x = cond (nat_lt 0 x.calls || is_named files d) (Some x) None
 
 abbrev pub without_unused_descriptions : Files → Files
