@@ -116,23 +116,23 @@ unfolding park_blocks
 blocks-is l b w q s = rw s refl
 
 module _ (p : ℕ) (h : Here) (ring_number : ℕ → ℕ) (k : OfProcess p h.side h.node h.workers ring_number) (q : Pid) (w : ℕ) (e : may_here (Events.Park q w) h ≡ true) where
-  abbrev m : MayPark h w
+  abbrev pub m : MayPark h w
   m = may-park h q w e
 
-  abbrev n : ℕ
+  abbrev pub n : ℕ
   n = m.request.number
 
-  abbrev before : Service
+  abbrev pub before : Service
   before = service_of h.side.linux.services n
 
-  abbrev stopped : Service
+  abbrev pub stopped : Service
   stopped = record before { answer = interrupted_answer before.progress }
 
-  abbrev after_park : Bool → Side
+  abbrev pub after_park : Bool → Side
   after_park true = record h.side { linux = with_service h.side.linux n stopped; book = with_state h.side.book n Ended }
   after_park false = record h.side { linux = record h.side.linux { workers = cut h.side.linux.workers w }; book = with_state h.side.book n Parked }
 
-  kept : (b : Bool) → OfProcess p (after_park b) h.node h.workers ring_number
+  pub kept : (b : Bool) → OfProcess p (after_park b) h.node h.workers ring_number
   kept true = keeps_step p h.side h.node h.workers ring_number k w n m.request.call m.request.serving m.request.is m.no_pin Ended stopped refl refl refl refl refl refl refl refl
   kept false =
     let a = reads-cut h.side.linux.workers w in
@@ -140,7 +140,7 @@ module _ (p : ℕ) (h : Here) (ring_number : ℕ → ℕ) (k : OfProcess p h.sid
       (rw a (served_block h.workers (at h.side.linux.workers) (at h.side.book.rows) (at h.side.linux.services) (at h.side.linux.pins) h.side.book.waiting (at h.side.lwk.noted) h.side.to_linux h.side.to_lwk k.served w n m.request.call m.request.serving m.request.is m.no_pin))
 
   -- the event's function with the request named
-  abbrev parked : Bool → Here
+  abbrev pub parked : Bool → Here
   parked b = with_node (with_side (record h { turns = turn_given_up p h.side.linux h.node.files w h.turns }) (after_park b)) (set_files (files_if b before.progress h.node.files) h.node)
 
   abbrev placed : LinuxSide × Book → Bool → Progress → Here
@@ -150,7 +150,7 @@ module _ (p : ℕ) (h : Here) (ring_number : ℕ → ℕ) (k : OfProcess p h.sid
   by-mark true = ap (λ (x : LinuxSide × Book). placed x true before.progress) (stops-is h.side.linux h.side.book w n m.request.serving)
   by-mark false = ap (λ (x : LinuxSide × Book). placed x false before.progress) (blocks-is h.side.linux h.side.book w n m.request.serving)
 
-  park-is : park_here p w h ≡ parked before.interrupted
+  pub park-is : park_here p w h ≡ parked before.interrupted
   unfolding park_here
   park-is =
     ap (λ (o : Option ℕ). let k = service_of h.side.linux.services (unwrap_or o 0) in placed (parks k.interrupted h.side.linux h.side.book w) k.interrupted k.progress) m.request.serving
@@ -169,18 +169,18 @@ module _ (p : ℕ) (h : Here) (ring_number : ℕ → ℕ) (k : OfProcess p h.sid
   call-is : at (each (shown_call h.side) h.side.lwk.callers) t ≡ Some (record { marked = caller.marked; status = Active before.progress })
   call-is = let is = m.request.is in rw is at (shown-call-at p h.side h.node h.workers ring_number k n Held m.request.call m.request.is refl)
 
-  abbrev status_then : Bool → CallStatus
+  abbrev pub status_then : Bool → CallStatus
   status_then true = Over stopped.answer
   status_then false = Blocked before.progress
 
-  own-then : (b : Bool) → status_of (after_park b) n ≡ status_then b
+  pub own-then : (b : Bool) → status_of (after_park b) n ≡ status_then b
   own-then true = status-own h.side n Held Ended m.request.call m.request.is h.side.linux.mirror h.side.linux.pins h.side.linux.workers (put h.side.linux.services n stopped) h.side.linux.cleared h.side.book.waiting stopped (put-own h.side.linux.services n stopped)
   own-then false =
     let e = reads-stated Parked n h.side.book.rows m.request.call Held m.request.is in
     let same : (n == n) ≡ true = grind (arith, nat_tests) in
     rw (e, same) refl
 
-  others-then : (b : Bool) (x : ℕ) → (x == n) ≡ false → status_of (after_park b) x ≡ status_of h.side x
+  pub others-then : (b : Bool) (x : ℕ) → (x == n) ≡ false → status_of (after_park b) x ≡ status_of h.side x
   others-then true = status-others h.side n Held Ended m.request.call m.request.is h.side.linux.mirror h.side.linux.pins h.side.linux.workers (put h.side.linux.services n stopped) h.side.linux.cleared h.side.book.waiting (put-other h.side.linux.services n stopped) (λ x f v. refl)
   others-then false = status-others h.side n Held Parked m.request.call m.request.is h.side.linux.mirror h.side.linux.pins (cut h.side.linux.workers w) h.side.linux.services h.side.linux.cleared h.side.book.waiting (λ x f. refl)
     (λ x f v. let a = reads-cut h.side.linux.workers w in rw a (serves-other (at h.side.linux.workers) w n x None m.request.serving (λ z u. absurd (grind (arith, u))) f v))

@@ -11,7 +11,7 @@ use Rattle.std.specs.Cmp.{unsigned_tied, nat_cmp_total}
 use Rattle.std.specs.FinMap.{find, get-entries, entries-insert, entries_sorted, is_sorted}
 use Rattle.std.specs.FinMap.Entries.{below_all, by_order}
 use Rattle.std.specs.Ordering.{is_lt, is_eq, nat_cmp}
-use Rattle.std.specs.Prelude.{Bool, List, None, Some, [], cond, false, sum_by, true, ℕ, ◌&&◌, ◌+◌, ◌==◌, ◌∷◌, ◌≡◌}
+use Rattle.std.specs.Prelude.{Bool, List, None, Some, [], cond, false, sum_by, true, ℕ, ◌&&◌, ◌+◌, ◌==◌, ◌∷◌, ◌≡◌, ◌≤◌}
 use Rattle.std.specs.declared.cmp.Ordering.{Ordering}
 use Rattle.std.specs.declared.cmp.Ordering.TheVariants.{Less, Equal, Greater}
 use lib.Dec.{T}
@@ -115,3 +115,22 @@ entries-same {V} f g m h = sum-same f g (finmap.entries m) (Each-map (λ (x : �
 pub entries-but : {V : Type 0} (f g : ℕ × V → ℕ) (m : Map V) (k : ℕ) (v : V) → at m k ≡ Some v → ((j : ℕ) (u : V) → (j == k) ≡ false → at m j ≡ Some u → f (j, u) ≡ g (j, u)) → sum_by f (finmap.entries m) + g (k, v) ≡ sum_by g (finmap.entries m) + f (k, v)
 entries-but {V} f g m k v e h = sum-but f g k v (finmap.entries m) (entries_sorted m) (sym (get-entries m k) ∙ e)
   (Each-map (λ (x : ℕ × V). find nat_cmp x.0 (finmap.entries m) ≡ Some x.1) (λ (x : ℕ × V). (x.0 == k) ≡ false → f x ≡ g x) (finmap.entries m) (λ x y n. h x.0 x.1 n (get-entries m x.0 ∙ y)) (each-found (finmap.entries m) (entries_sorted m)))
+
+-- a sum is at least what one row counts, and what two rows count
+module _ {V : Type 0} (f : ℕ × V → ℕ) (m : Map V) where
+  abbrev but : ℕ → ℕ × V → ℕ
+  but k x = cond (x.0 == k) 0 (f x)
+
+  split-off : (k : ℕ) (v : V) → at m k ≡ Some v → sum_by f (finmap.entries m) ≡ sum_by (but k) (finmap.entries m) + f (k, v)
+  split-off k v e =
+    let s : (k == k) ≡ true = grind (arith, nat_tests) in
+    let z : but k (k, v) ≡ 0 = rw s refl in
+    omega (arith, entries-but f (but k) m k v e (λ j u n g. rw n refl), z)
+
+  pub entries-least : (k : ℕ) (v : V) → at m k ≡ Some v → f (k, v) ≤ sum_by f (finmap.entries m)
+  entries-least k v e = omega (arith, split-off k v e)
+
+pub entries-two : {V : Type 0} (f : ℕ × V → ℕ) (m : Map V) (j k : ℕ) (u v : V) → (k == j) ≡ false → at m j ≡ Some u → at m k ≡ Some v → f (j, u) + f (k, v) ≤ sum_by f (finmap.entries m)
+entries-two {V} f m j k u v n e g =
+  let z : but f m j (k, v) ≡ f (k, v) = rw n refl in
+  omega (arith, split-off f m j u e, entries-least (but f m j) m k v g, z)

@@ -1,5 +1,6 @@
 -- From one process to the whole state, where an event changes the side of one process, the files, the turns and bytes of frames, and leaves all else.
 use Rattle.file_model.specs.Files.{Files, description_of}
+use Rattle.hybrid_laws.specs.Act.{others}
 use Rattle.hybrid_laws.specs.Copy.{held}
 use Rattle.hybrid_laws.specs.OneRequest.{files-any}
 use Rattle.hybrid_laws.specs.Tests.{both, not-true}
