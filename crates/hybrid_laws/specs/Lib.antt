@@ -89,3 +89,4 @@ pub mod WholeStep
 pub mod WholeAct
 pub mod WholePark
 pub mod IntakeAck
+pub mod DecideSays
