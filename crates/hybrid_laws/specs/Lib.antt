@@ -90,3 +90,4 @@ pub mod WholeAct
 pub mod WholePark
 pub mod IntakeAck
 pub mod DecideSays
+pub mod TrapChanges
