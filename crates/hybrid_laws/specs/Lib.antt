@@ -80,14 +80,6 @@ pub mod InterruptEvent
 pub mod RoundOver
 pub mod Adding
 pub mod Effects
-pub mod LowestFree
-pub mod Descriptions
-pub mod FileOps
-pub mod CallSteps
-pub mod CallLaws
-pub mod WholeStep
-pub mod WholeAct
-pub mod WholePark
 pub mod IntakeAck
 pub mod DecideSays
 pub mod TrapChanges
