@@ -83,3 +83,5 @@ pub mod Effects
 pub mod IntakeAck
 pub mod DecideSays
 pub mod TrapChanges
+pub mod Copying
+pub mod NewSide
