@@ -85,3 +85,4 @@ pub mod DecideSays
 pub mod TrapChanges
 pub mod Copying
 pub mod NewSide
+pub mod TrapForks

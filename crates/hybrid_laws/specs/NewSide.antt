@@ -23,7 +23,7 @@ pub new-empty : (n : ℕ) → all_empty (replicate n []) ≡ true
 new-empty zero = refl
 new-empty (suc n) = new-empty n
 
-no-at : {V : Type 0} (k : ℕ) (v : V) → at no_rows k ≡ Some v → ⊥
+pub no-at : {V : Type 0} (k : ℕ) (v : V) → at no_rows k ≡ Some v → ⊥
 no-at k v e = let n = sym (at-none k) ∙ e in grind (arith, n)
 
 pub new_side-keeps : (p rings : ℕ) (table : Map Row) (node : Node) (workers : ℕ) (ring : ℕ → ℕ) → ((u : ℕ) (x : Thread) → at node.threads u ≡ Some x → x.process ≡ p → is_called x.does ≡ false)
