@@ -199,3 +199,7 @@ shown_protect rights i sp = let a = changes in λ k. record { memory = a k; free
         row : (b : Bool) (o q : Option Row) → cond b (option_map (λ (x : Page). record x { rights = rights }) (and_then o (λ v. Some (shown_row sp.frames v)))) (and_then q (λ v. Some (shown_row sp.frames v))) ≡ and_then (cond b (option_map (λ (r : Row). (r.0, rights)) o) q) (λ v. Some (shown_row sp.frames v))
         row true o q = own o
         row false o q = refl
+
+pub protect_own : (rights : Rights) (i : ℕ) (sp : Space) (r : Row) → at sp.table i ≡ Some r → at (protect_page rights i sp).table i ≡ Some (r.0, rights)
+unfolding protect_page
+protect_own rights i sp r e = at-change sp.table i (λ (x : Row). (x.0, rights)) i ∙ (let s : (i == i) ≡ true = grind (arith, nat_tests) in rw (s, e) refl)

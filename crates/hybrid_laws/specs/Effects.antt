@@ -27,10 +27,10 @@ use Rattle.std.specs.Prelude.{Bool, List, None, Option, Some, [], cond, false, f
 
 -- ---- pages of a range, counted
 module _ (r : PageRange) where
-  abbrev inside : ℕ × Page → ℕ
+  abbrev pub inside : ℕ × Page → ℕ
   inside e = if in_range r e.0 then 1 else 0
 
-  count-inside : (m : Memory) → count_present m r ≡ sum_of inside (entries m)
+  pub count-inside : (m : Memory) → count_present m r ≡ sum_of inside (entries m)
   count-inside m = go (entries m)
     where
       step : (b : Bool) (k : ℕ) (ks : List ℕ) (n : ℕ) → length ks ≡ n → ◌≡◌ {A = ℕ} (length (cond b (k ∷ ks) ks)) ((if b then 1 else 0) + n)

@@ -88,3 +88,9 @@ pub mod CallLaws
 pub mod WholeStep
 pub mod WholeAct
 pub mod WholePark
+pub mod IntakeAck
+pub mod DecideSays
+pub mod TrapChanges
+pub mod Copying
+pub mod NewSide
+pub mod TrapForks
