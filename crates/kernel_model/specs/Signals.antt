@@ -47,10 +47,10 @@ stored_all (s ∷ ss) m = stored_all ss (write_bytes m s.address s.bytes)
 
 -- ---- generating
 
-abbrev ignored_by_default : List ℕ
+abbrev pub ignored_by_default : List ℕ
 ignored_by_default = 17 ∷ 18 ∷ 23 ∷ 28 ∷ []
 
-abbrev action_ignores : ℕ → Action → Bool
+abbrev pub action_ignores : ℕ → Action → Bool
 action_ignores signal a = a.handler == 1 || (a.handler == 0 && member signal ignored_by_default)
 
 abbrev pub ignores : Process → ℕ → Bool
@@ -133,14 +133,14 @@ abbrev pub frame_address : Regs → ℕ
 frame_address r = wrapped (reg r 2 + (2 ^ 64 - frame_size)) / 16 * 16
 
 -- a thread that stands back on an interrupted ecall goes on behind it with -EINTR, unless the action restarts
-abbrev interrupted_regs : Bool → Action → Regs → Regs
+abbrev pub interrupted_regs : Bool → Action → Regs → Regs
 interrupted_regs back a r = cond (back && not (SA_RESTART a)) (set_a0 (word_of (refused EINTR)) (set_pc (r.pc + 4) r)) r
 
-abbrev handler_regs : Action → ℕ → ℕ → Regs → Regs
+abbrev pub handler_regs : Action → ℕ → ℕ → Regs → Regs
 handler_regs a signal sp r =
   set_reg 1 trampoline (set_reg 2 sp (set_reg 10 signal (set_reg 11 0 (set_reg 12 0 (record r { pc = a.handler })))))
 
-abbrev handler_mask : Action → ℕ → ℕ → ℕ
+abbrev pub handler_mask : Action → ℕ → ℕ → ℕ
 handler_mask a signal mask = as_mask (union mask (cond (SA_NODEFER a) a.mask.0 (with_signal signal a.mask.0)))
 
 abbrev set_action : ℕ → Action → Process → Process
@@ -186,14 +186,14 @@ deliver t v = elim (next_signal v.node t) [
 
 -- ---- returning
 
-abbrev words_in : ℕ → List ℕ → List ℕ
+abbrev pub words_in : ℕ → List ℕ → List ℕ
 words_in zero bytes = []
 words_in (suc n) bytes = number_of (take 8 bytes) ∷ words_in n (drop 8 bytes)
 
-abbrev restored : List ℕ → Regs
+abbrev pub restored : List ℕ → Regs
 restored bytes = record { pc = number_of (take 8 bytes); x = 0 ∷ words_in 31 (drop 8 bytes) }
 
-abbrev mask_in : List ℕ → ℕ
+abbrev pub mask_in : List ℕ → ℕ
 mask_in bytes = as_mask (number_of (take 8 (drop 256 bytes)))
 
 -- the registers and the mask come back from the frame at the stack pointer; where it can't be read, 11 is raised
