@@ -47,10 +47,10 @@ stored_all (s ∷ ss) m = stored_all ss (write_bytes m s.address s.bytes)
 
 -- ---- generating
 
-abbrev ignored_by_default : List ℕ
+abbrev pub ignored_by_default : List ℕ
 ignored_by_default = 17 ∷ 18 ∷ 23 ∷ 28 ∷ []
 
-abbrev action_ignores : ℕ → Action → Bool
+abbrev pub action_ignores : ℕ → Action → Bool
 action_ignores signal a = a.handler == 1 || (a.handler == 0 && member signal ignored_by_default)
 
 abbrev pub ignores : Process → ℕ → Bool
@@ -191,7 +191,7 @@ deliver t v = elim (next_signal v.node t) [
 
 -- ---- returning
 
-abbrev words_in : ℕ → List ℕ → List ℕ
+abbrev pub words_in : ℕ → List ℕ → List ℕ
 words_in zero bytes = []
 words_in (suc n) bytes = number_of (take 8 bytes) ∷ words_in n (drop 8 bytes)
 

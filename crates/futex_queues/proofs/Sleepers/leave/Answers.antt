@@ -1,5 +1,5 @@
 use Rattle.std.proofs.Common.{◌≡◌, not, ap, subst, sym, ◌∙◌, rules}
-use Rattle.std.specs.Prelude.{filter, map}
+use Rattle.std.specs.Prelude.{map}
 use Rattle.std.proofs.lemmas.Fn.{filter_same}
 use Rattle.mck_word.specs.Lists.{without}
 use Rattle.futex_queues.specs.Sleep.{IsQueue, is_thread, shown}

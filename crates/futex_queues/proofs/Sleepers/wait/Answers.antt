@@ -1,4 +1,4 @@
-use Rattle.std.proofs.Common.{[], ◌∷◌, false, ◌≡◌, ◌<◌, ap, length, subst, sym, ◌∙◌}
+use Rattle.std.proofs.Common.{◌<◌, ap, length, subst, sym, ◌∙◌}
 use Rattle.std.specs.List.{list_any}
 use Rattle.std.specs.Prelude.{map}
 use Rattle.futex_queues.specs.Sleep.{IsQueue, Queue, is_thread, shown, waiters}

@@ -1,11 +1,10 @@
-use Rattle.std.proofs.Common.{List, None, ℕ, ◌≡◌, ◌≤◌, ap, length, subst, sym, ◌∙◌, arith}
+use Rattle.std.proofs.Common.{List, ℕ, ◌≡◌, ◌≤◌, ap, length, subst, sym, ◌∙◌, arith}
 use Rattle.std.specs.Prelude.{filter, map, min, position, take}
 use Rattle.std.proofs.lemmas.List.{length-map}
 use Rattle.futex_queues.specs.declared.Waiter.{Waiter}
-use Rattle.kernel_model.specs.Nodes.{most_threads}
 use Rattle.futex_queues.specs.Sleep.{IsQueue, Queue, drop_first, left, shown, sleeps_at, thread_of, waiters}
 use Rattle.futex_queues.proofs.Queues.{IsQueue-filter, count-shown, filter-map, left-shown, woken-shown}
-use Rattle.futex_queues.proofs.Wakes.{Waking, room-to-wake, wake-one, woke-all, woke-full, left-none, left-full, position-first, position-never}
+use Rattle.futex_queues.proofs.Wakes.{room-to-wake, wake-one, woke-all, woke-full, left-none, left-full, position-first, position-never}
 use Rattle.futex_queues.proofs.Sleepers.wake.Goals as goal
 
 -- at most sixteen of the rows sleep there
