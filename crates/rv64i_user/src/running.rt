@@ -23,11 +23,11 @@ fn jump(r: &mut Regs, stop: &mut Stop, rd: u8, target: u64) -> bool
     ensures did { (r.new, stop.new) ≡ jumps r.old rd target }
     ensures went { result ≡ is_on stop.new }
 {
+    let after = r.pc.wrapping_add(4);
     if target % 4 != 0 {
         *stop = Stop::Misaligned;
         return false;
     }
-    let after = r.pc.wrapping_add(4);
     r.pc = target;
     set(r, rd, after);
     true

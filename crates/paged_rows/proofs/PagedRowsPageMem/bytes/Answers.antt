@@ -1,4 +1,4 @@
-use Rattle.std.proofs.Common.{◌≡◌, ◌<◌, length, slice_index_or, option_map, sym, ap, ◌∙◌, subst}
+use Rattle.std.proofs.Common.{slice_index_or, option_map, ap, ◌∙◌}
 use Rattle.isa_model.specs.Memory.{Page}
 use Rattle.paged_rows.proofs.RowPages.{same-place, page-at}
 use Rattle.paged_rows.proofs.PagedRowsPageMem.bytes.Goals as goal

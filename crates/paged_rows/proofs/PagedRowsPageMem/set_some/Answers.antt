@@ -1,9 +1,8 @@
-use Rattle.std.proofs.Common.{◌≡◌, ◌<◌, length, slice_index_or, slice_set, List, ℕ, sym, ap, ◌∙◌, subst}
+use Rattle.std.proofs.Common.{◌<◌, length, List, ℕ, sym, ap, ◌∙◌, subst}
 use Rattle.isa_model.specs.Memory.{Page}
 use Rattle.mck_word.specs.Maps.{change}
 use Rattle.rv64i_user.specs.Places.{page_put}
 use Rattle.paged_rows.specs.Rows.{pages_of}
-use Rattle.paged_rows.specs.declared.PageRow.{PageRow}
 use Rattle.paged_rows.proofs.RowPages.{same-place, row-changed}
 use Rattle.paged_rows.proofs.PagedRowsPageMem.set_some.Goals as goal
 
