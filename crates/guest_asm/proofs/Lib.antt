@@ -1,1 +1,5 @@
+pub mod Codes
+pub mod Cuts
+pub mod LabelMaps
 pub mod Texts
+pub mod WordLists

@@ -1,5 +1,5 @@
 -- Texts of instructions.
-use Rattle.std.proofs.Common.{◌≡◌, ◌≤◌, ℕ, List, [], length, get_or, arith}
+use Rattle.std.proofs.Common.{◌≡◌, ◌≤◌, ℕ, []}
 use Rattle.std.proofs.lemmas.List.{get_or_past}
 use Rattle.guest_asm.specs.Names.{abi_name, abi_names}
 

@@ -1,2 +1,5 @@
+pub mod Assembly
+pub mod Labels
+pub mod Lines
 pub mod Names
 pub mod Numbers

@@ -1,5 +1,5 @@
 -- The names of instructions and registers (RISC-V assembler), and which operands an instruction has.
-use Rattle.std.specs.Prelude.{ℕ, zero, suc, ◌==◌, nat_lt, bytes_eq, codes, List, [], ◌∷◌, Option, Some, None, find, get_or, if◌then◌else◌}
+use Rattle.std.specs.Prelude.{ℕ, ◌==◌, nat_lt, bytes_eq, codes, List, [], ◌∷◌, Option, Some, None, find, get_or, if◌then◌else◌}
 use Rattle.mck_word.specs.Lists.{count_from}
 use Rattle.mck_word.specs.Numbers.{number_of}
 use Rattle.isa_model.specs.Table.{all_ops}

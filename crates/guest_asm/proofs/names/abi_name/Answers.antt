@@ -1,4 +1,4 @@
-use Rattle.std.proofs.Common.{◌≡◌, ◌≤◌, [], sym, arith}
+use Rattle.std.proofs.Common.{◌≤◌, sym, arith}
 use Rattle.guest_asm.proofs.Texts.{past_names}
 use Rattle.guest_asm.proofs.names.abi_name.Goals as goal
 
