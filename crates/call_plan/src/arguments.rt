@@ -4,7 +4,10 @@ ghost use Rattle.kernel_model.specs.Plans as plans;
 ghost use Rattle.kernel_model.specs.Plans.{flags_at, int_at, own_offset, vector_count};
 ghost use Rattle.mck_word.specs.Words.{int_argument, signed};
 
-use crate::numbers::{CLOSE, FSTAT, GETDENTS64, IOCTL, LSEEK, MKDIRAT, OPENAT, PIPE2, PREAD64, PWRITE64, UNLINKAT, has_vectors, is_read};
+use crate::numbers::{
+    CLOSE, FSTAT, GETDENTS64, IOCTL, LSEEK, MKDIRAT, OPENAT, PIPE2, PREAD64, PWRITE64, UNLINKAT,
+    has_vectors, is_read,
+};
 use file_model::FileOp;
 
 /// The low 32 bits of an argument.
@@ -48,7 +51,11 @@ fn own_offset(number: u64, arguments: &[u64; 6]) -> Option<i64>
 fn vector_count(number: u64, arguments: &[u64; 6]) -> i32
     ensures { result ≡ vector_count number arguments.now }
 {
-    if has_vectors(number) { int(arguments[2]) } else { 0 }
+    if has_vectors(number) {
+        int(arguments[2])
+    } else {
+        0
+    }
 }
 
 /// The operation of a delegated call's act.

@@ -6,18 +6,40 @@ ghost use Rattle.kernel_model.specs.Plans.{delegated_calls, local_calls, memory_
 ghost use Rattle.mck_word.specs.Lists.{member};
 
 use crate::arguments::int;
-use crate::numbers::{CLOSE, FSTAT, GETDENTS64, IOCTL, LSEEK, MKDIRAT, OPENAT, PIPE2, PREAD64, PWRITE64, READ, READV, UNLINKAT, WRITE, WRITEV};
+use crate::numbers::{
+    CLOSE, FSTAT, GETDENTS64, IOCTL, LSEEK, MKDIRAT, OPENAT, PIPE2, PREAD64, PWRITE64, READ, READV,
+    UNLINKAT, WRITE, WRITEV,
+};
 use crate::phases::{Phases, Stages};
 use crate::plans::Plan;
 
-const MOST_MOVED: u64 = 65_536;
+pub const MOST_MOVED: u64 = 65_536;
+
 const MOST_PATH: u64 = 4_096;
 
 /// Whether the call is one of the own kernel's that leave memory as it is.
 fn is_local(number: u64) -> bool
     ensures { result ≡ member number local_calls }
 {
-    matches!(number, 93 | 94 | 96 | 98 | 99 | 124 | 129 | 131 | 134 | 135 | 136 | 139 | 172 | 173 | 178 | 220 | 260)
+    matches!(
+        number,
+        93 | 94
+            | 96
+            | 98
+            | 99
+            | 124
+            | 129
+            | 131
+            | 134
+            | 135
+            | 136
+            | 139
+            | 172
+            | 173
+            | 178
+            | 220
+            | 260
+    )
 }
 
 /// Whether the call changes the process's memory.
@@ -32,12 +54,28 @@ fn phases_of(number: u64, arguments: &[u64; 6]) -> Phases
     ensures { result ≡ phases_of number arguments.now }
 {
     match number {
-        OPENAT | MKDIRAT | UNLINKAT => Phases::with_range(Stages::GatherAct, arguments[1], MOST_PATH),
+        OPENAT | MKDIRAT | UNLINKAT => Phases::with_range(
+            Stages::GatherAct,
+            arguments[1],
+            MOST_PATH,
+        ),
         PIPE2 => Phases::with_range(Stages::ActScatter, arguments[0], 8),
         FSTAT => Phases::with_range(Stages::ActScatter, arguments[1], 128),
-        GETDENTS64 => Phases::with_range(Stages::ActScatter, arguments[1], arguments[2].min(MOST_MOVED)),
-        READV | WRITEV => Phases::with_range(Stages::ActGatherStream, arguments[1], 16 * int(arguments[2]).max(0) as u64),
-        READ | WRITE | PREAD64 | PWRITE64 => Phases::with_range(Stages::ActStream, arguments[1], arguments[2].min(MOST_MOVED)),
+        GETDENTS64 => Phases::with_range(
+            Stages::ActScatter,
+            arguments[1],
+            arguments[2].min(MOST_MOVED),
+        ),
+        READV | WRITEV => Phases::with_range(
+            Stages::ActGatherStream,
+            arguments[1],
+            16 * int(arguments[2]).max(0) as u64,
+        ),
+        READ | WRITE | PREAD64 | PWRITE64 => Phases::with_range(
+            Stages::ActStream,
+            arguments[1],
+            arguments[2].min(MOST_MOVED),
+        ),
         _ => Phases::without_ranges(Stages::Act),
     }
 }
@@ -53,9 +91,21 @@ pub fn plan(number: u64, arguments: &[u64; 6]) -> Plan
         return Plan::Memory;
     }
     match number {
-        IOCTL | MKDIRAT | UNLINKAT | OPENAT | CLOSE | PIPE2 | GETDENTS64 | LSEEK | READ | WRITE | READV | WRITEV | PREAD64 | PWRITE64 | FSTAT => {
-            Plan::Delegated(phases_of(number, arguments))
-        }
+        IOCTL
+        | MKDIRAT
+        | UNLINKAT
+        | OPENAT
+        | CLOSE
+        | PIPE2
+        | GETDENTS64
+        | LSEEK
+        | READ
+        | WRITE
+        | READV
+        | WRITEV
+        | PREAD64
+        | PWRITE64
+        | FSTAT => { Plan::Delegated(phases_of(number, arguments)) }
         _ => Plan::Unknown,
     }
 }
