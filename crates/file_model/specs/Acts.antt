@@ -22,23 +22,28 @@ access_of flags = flags % 4
 
 abbrev pub O_CREAT : ℕ → Bool
 O_CREAT flags = has_bit 6 flags
+
 abbrev pub O_EXCL : ℕ → Bool
 O_EXCL flags = has_bit 7 flags
+
 abbrev pub O_TRUNC : ℕ → Bool
 O_TRUNC flags = has_bit 9 flags
+
 abbrev pub O_APPEND : ℕ → Bool
 O_APPEND flags = has_bit 10 flags
+
 abbrev pub O_DIRECTORY : ℕ → Bool
 O_DIRECTORY flags = has_bit 16 flags
 
 abbrev pub may_read : ℕ → Bool
 may_read flags = access_of flags == 0 || access_of flags == 2
+
 abbrev pub may_write : ℕ → Bool
 may_write flags = access_of flags == 1 || access_of flags == 2
 
 abbrev pub open_node : Files → ℕ → ℕ → ℕ → FileResult
 open_node files process flags number =
-  done (pos (lowest_free (descriptors_of files process))) (opened process (OfNode number) (may_read flags) (may_write flags) (O_APPEND flags) files)
+    done (pos (lowest_free (descriptors_of files process))) (opened process (OfNode number) (may_read flags) (may_write flags) (O_APPEND flags) files)
 
 abbrev pub cut_to_nothing : Bool → ℕ → Files → Files
 cut_to_nothing cut n files = cond cut (set_bytes n [] files) files
@@ -46,21 +51,21 @@ cut_to_nothing cut n files = cond cut (set_bytes n [] files) files
 abbrev pub open_place : Files → ℕ → ℕ → List ℕ → Place → FileResult
 open_place files process flags text (NoPlace errno) = fails errno files
 open_place files process flags text (Present n) =
-  cond (O_CREAT flags && O_EXCL flags) (fails EEXIST files)
-  (cond ((node_of files n).directory && (may_write flags || O_CREAT flags)) (fails EISDIR files)
-  (cond (not (node_of files n).directory && O_DIRECTORY flags) (fails ENOTDIR files)
-  (open_node (cut_to_nothing (O_TRUNC flags && may_write flags) n files) process flags n)))
+    cond (O_CREAT flags && O_EXCL flags) (fails EEXIST files)
+    (cond ((node_of files n).directory && (may_write flags || O_CREAT flags)) (fails EISDIR files)
+    (cond (not (node_of files n).directory && O_DIRECTORY flags) (fails ENOTDIR files)
+    (open_node (cut_to_nothing (O_TRUNC flags && may_write flags) n files) process flags n)))
 open_place files process flags text (Absent directory name) =
-  cond (not (O_CREAT flags)) (fails ENOENT files)
-  (cond (ends_with_slash text) (fails EISDIR files)
-  (cond (nat_le most_nodes (count files.nodes)) (fails ENOSPC files)
-  (open_node (made directory name false files) process flags files.next_node)))
+    cond (not (O_CREAT flags)) (fails ENOENT files)
+    (cond (ends_with_slash text) (fails EISDIR files)
+    (cond (nat_le most_nodes (count files.nodes)) (fails ENOSPC files)
+    (open_node (made directory name false files) process flags files.next_node)))
 
 abbrev pub openat : Files → ℕ → ℤ → ℕ → List ℕ → FileResult
 openat files process dirfd flags text =
-  cond (access_of flags == 3 || (O_CREAT flags && O_DIRECTORY flags)) (fails EINVAL files)
-  (cond (nat_le most_descriptors (count (descriptors_of files process))) (fails EMFILE files)
-  (open_place files process flags text (place_of files process dirfd text)))
+    cond (access_of flags == 3 || (O_CREAT flags && O_DIRECTORY flags)) (fails EINVAL files)
+    (cond (nat_le most_descriptors (count (descriptors_of files process))) (fails EMFILE files)
+    (open_place files process flags text (place_of files process dirfd text)))
 
 -- ---- mkdirat and unlinkat
 
@@ -68,7 +73,7 @@ abbrev pub make_directory : Files → Place → FileResult
 make_directory files (NoPlace errno) = fails errno files
 make_directory files (Present n) = fails EEXIST files
 make_directory files (Absent directory name) =
-  cond (nat_le most_nodes (count files.nodes)) (fails ENOSPC files) (done (pos 0) (made directory name true files))
+    cond (nat_le most_nodes (count files.nodes)) (fails ENOSPC files) (done (pos 0) (made directory name true files))
 
 abbrev pub mkdirat : Files → ℕ → ℤ → List ℕ → FileResult
 mkdirat files process dirfd text = make_directory files (place_of files process dirfd text)
@@ -90,7 +95,7 @@ abbrev pub unlink_place : Files → ℕ → Place → FileResult
 unlink_place files flags (NoPlace errno) = fails errno files
 unlink_place files flags (Absent directory name) = fails ENOENT files
 unlink_place files flags (Present n) =
-  cond (flags == 0)
+    cond (flags == 0)
     (cond (node_of files n).directory (fails EISDIR files) (unlinked n files))
     (cond (not (node_of files n).directory) (fails ENOTDIR files)
     (cond (holds_names files n) (fails ENOTEMPTY files)
@@ -100,12 +105,13 @@ unlink_place files flags (Present n) =
 abbrev pub special_last : List Name → Option (ℕ × ℕ)
 special_last [] = Some (EISDIR, EBUSY)
 special_last (name ∷ names) = let last = get_or (name ∷ names) (length names) [] in
-  cond (bytes_eq last dot) (Some (EISDIR, EINVAL)) (cond (bytes_eq last dot_dot) (Some (EISDIR, ENOTEMPTY)) None)
+    cond (bytes_eq last dot) (Some (EISDIR, EINVAL)) (cond (bytes_eq last dot_dot) (Some (EISDIR, ENOTEMPTY)) None)
 
 abbrev pub unlink_last : Files → ℕ → ℤ → ℕ → List ℕ → FileResult
 unlink_last files process dirfd flags text = elim (special_last (names_of text)) [
   | None ↦ unlink_place files flags (place_of files process dirfd text)
-  | Some e ↦ fails (cond (flags == 0) e.0 e.1) files ]
+  | Some e ↦ fails (cond (flags == 0) e.0 e.1) files
+]
 
 -- the directory of the last name is there and is a directory
 abbrev pub unlink_below : Files → ℕ → ℤ → ℕ → List ℕ → Place → FileResult
@@ -115,8 +121,8 @@ unlink_below files process dirfd flags text (Present n) = unlink_last files proc
 
 abbrev pub unlinkat : Files → ℕ → ℤ → ℕ → List ℕ → FileResult
 unlinkat files process dirfd flags text =
-  cond (not (flags == 0 || flags == AT_REMOVEDIR)) (fails EINVAL files)
-  (unlink_below files process dirfd flags text (place_of_names files process dirfd text (all_but_last (names_of text))))
+    cond (not (flags == 0 || flags == AT_REMOVEDIR)) (fails EINVAL files)
+    (unlink_below files process dirfd flags text (place_of_names files process dirfd text (all_but_last (names_of text))))
 
 -- ---- close, ioctl, lseek
 
@@ -137,18 +143,19 @@ seek_to files d (pos n) = cond (nat_lt n (2 ^ 63)) (done (pos n) (set_offset d n
 abbrev pub seek_from : Files → ℕ → Inode → ℤ → ℤ → FileResult
 seek_from files d node offset (negsuc n) = fails EINVAL files
 seek_from files d node offset (pos whence) =
-  cond (whence == 0) (seek_to files d offset)
-  (cond node.directory (fails EINVAL files)
-  (cond (whence == 1) (seek_to files d (pos (description_of files d).offset +ℤ offset))
-  (cond (whence == 2) (seek_to files d (pos (length node.bytes) +ℤ offset))
-  (fails EINVAL files))))
+    cond (whence == 0) (seek_to files d offset)
+    (cond node.directory (fails EINVAL files)
+    (cond (whence == 1) (seek_to files d (pos (description_of files d).offset +ℤ offset))
+    (cond (whence == 2) (seek_to files d (pos (length node.bytes) +ℤ offset))
+    (fails EINVAL files))))
 
 abbrev pub lseek : Files → ℕ → ℤ → ℤ → ℤ → FileResult
 lseek files process fd offset whence = with_description files process fd (λ d x. elim x.target [
   | OfNode n ↦ seek_from files d (node_of files n) offset whence
   | ReadEnd n ↦ fails ESPIPE files
   | WriteEnd n ↦ fails ESPIPE files
-  | OfConsole n ↦ fails ESPIPE files ])
+  | OfConsole n ↦ fails ESPIPE files
+])
 
 -- ---- pipe2
 
@@ -163,21 +170,24 @@ abbrev pub pipe_opened : ℕ → Files → Files
 pipe_opened process files = opened process (WriteEnd (lowest_free files.pipes)) false true false (read_end_opened process files)
 
 abbrev pub pipe_result : ℕ → Files → FileResult
-pipe_result process files = record { answer = pos 0; files = pipe_opened process files;
-  out = little_endian 4 (lowest_free (descriptors_of files process)) ++ little_endian 4 (lowest_free (descriptors_of (read_end_opened process files) process)) }
+pipe_result process files = record {
+  answer = pos 0;
+  files = pipe_opened process files;
+  out = little_endian 4 (lowest_free (descriptors_of files process)) ++ little_endian 4 (lowest_free (descriptors_of (read_end_opened process files) process));
+}
 
 abbrev pub pipe2 : Files → ℕ → ℕ → FileResult
 pipe2 files process flags =
-  cond (not (flags == 0 || flags == O_CLOEXEC)) (fails EINVAL files)
-  (cond (nat_lt most_descriptors (count (descriptors_of files process) + 2)) (fails EMFILE files)
-  (pipe_result process files))
+    cond (not (flags == 0 || flags == O_CLOEXEC)) (fails EINVAL files)
+    (cond (nat_lt most_descriptors (count (descriptors_of files process) + 2)) (fails EMFILE files)
+    (pipe_result process files))
 
 -- ---- fstat
 
 abbrev pub stat_record : ℕ → ℕ → ℕ → List ℕ
 stat_record node mode size =
-  little_endian 8 1 ++ little_endian 8 node ++ little_endian 4 mode ++ little_endian 4 1 ++ replicate 24 0
-  ++ little_endian 8 size ++ little_endian 4 4096 ++ replicate 4 0 ++ little_endian 8 ((size + 511) / 512) ++ replicate 56 0
+    little_endian 8 1 ++ little_endian 8 node ++ little_endian 4 mode ++ little_endian 4 1 ++ replicate 24 0
+    ++ little_endian 8 size ++ little_endian 4 4096 ++ replicate 4 0 ++ little_endian 8 ((size + 511) / 512) ++ replicate 56 0
 
 abbrev pub stat_of_target : Files → Target → List ℕ
 stat_of_target files (OfNode n) = cond (node_of files n).directory (stat_record n 0o40755 0) (stat_record n 0o100644 (length (node_of files n).bytes))
@@ -196,8 +206,8 @@ padding n = (8 - n % 8) % 8
 -- node, the next place, length, type and name of one entry
 abbrev pub directory_record : ℕ → ℕ → Bool → Name → List ℕ
 directory_record node next directory name =
-  let plain = 19 + length name + 1 in
-  little_endian 8 node ++ little_endian 8 next ++ little_endian 2 (plain + padding plain) ++ cond directory 4 8 ∷ name ++ replicate (1 + padding plain) 0
+    let plain = 19 + length name + 1 in
+    little_endian 8 node ++ little_endian 8 next ++ little_endian 2 (plain + padding plain) ++ cond directory 4 8 ∷ name ++ replicate (1 + padding plain) 0
 
 abbrev pub entry_record : Files → ℕ → ℕ → Name → List ℕ
 entry_record files here next name = let n = unwrap_or (child files here name) 0 in directory_record n next (node_of files n).directory name
@@ -209,7 +219,7 @@ entry_records files here place (name ∷ names) = entry_record files here (place
 -- all records of the directory: itself, the one above, then its names
 abbrev pub all_records : Files → ℕ → List (List ℕ)
 all_records files here =
-  directory_record here 1 true dot ∷ directory_record (node_of files here).parent 2 true dot_dot ∷ entry_records files here 2 (names_in files here)
+    directory_record here 1 true dot ∷ directory_record (node_of files here).parent 2 true dot_dot ∷ entry_records files here 2 (names_in files here)
 
 -- as many whole records from the front as fit
 abbrev pub records_that_fit : ℕ → List (List ℕ) → List (List ℕ)
@@ -222,22 +232,23 @@ joined (r ∷ rs) = r ++ joined rs
 
 abbrev pub list_records : Files → ℕ → ℕ → List (List ℕ) → FileResult
 list_records files d most left =
-  let fit = records_that_fit (min most 65_536) left in
-  cond (nat_lt 0 (length left) && length fit == 0) (fails EINVAL files)
-  (record { answer = pos (length (joined fit)); out = joined fit; files = set_offset d ((description_of files d).offset + length fit) files })
+    let fit = records_that_fit (min most 65_536) left in
+    cond (nat_lt 0 (length left) && length fit == 0) (fails EINVAL files)
+    (record { answer = pos (length (joined fit)); out = joined fit; files = set_offset d ((description_of files d).offset + length fit) files })
 
 abbrev pub list_node : Files → ℕ → ℕ → ℕ → FileResult
 list_node files d most n =
-  cond (not (node_of files n).directory) (fails ENOTDIR files)
-  (cond (is_unlinked n (node_of files n).name) (fails ENOENT files)
-  (list_records files d most (drop (description_of files d).offset (all_records files n))))
+    cond (not (node_of files n).directory) (fails ENOTDIR files)
+    (cond (is_unlinked n (node_of files n).name) (fails ENOENT files)
+    (list_records files d most (drop (description_of files d).offset (all_records files n))))
 
 abbrev pub getdents : Files → ℕ → ℤ → ℕ → FileResult
 getdents files process fd most = with_description files process fd (λ d x. elim x.target [
   | OfNode n ↦ list_node files d most n
   | ReadEnd n ↦ fails ENOTDIR files
   | WriteEnd n ↦ fails ENOTDIR files
-  | OfConsole n ↦ fails ENOTDIR files ])
+  | OfConsole n ↦ fails ENOTDIR files
+])
 
 -- ---- the acts of the reading and writing calls: the answer is the description, which the call holds from then on
 
@@ -265,14 +276,15 @@ count_is_valid (negsuc n) = false
 abbrev pub found : Files → ℕ → Target → Option ℤ → ℤ → FileResult
 found files d target at count = elim (offset_error target at) [
   | Some errno ↦ fails errno files
-  | None ↦ cond (count_is_valid count) (done (pos d) (hold d files)) (fails EINVAL files) ]
+  | None ↦ cond (count_is_valid count) (done (pos d) (hold d files)) (fails EINVAL files)
+]
 
 abbrev pub read_act : Files → ℕ → ℤ → Option ℤ → ℤ → FileResult
 read_act files process fd at count = with_description files process fd (λ d x.
-  cond (not x.readable) (fails EBADF files)
-  (cond (is_directory_target files x.target) (fails EISDIR files)
-  (found files d x.target at count)))
+    cond (not x.readable) (fails EBADF files)
+    (cond (is_directory_target files x.target) (fails EISDIR files)
+    (found files d x.target at count)))
 
 abbrev pub write_act : Files → ℕ → ℤ → Option ℤ → ℤ → FileResult
 write_act files process fd at count = with_description files process fd (λ d x.
-  cond (not x.writable) (fails EBADF files) (found files d x.target at count))
+    cond (not x.writable) (fails EBADF files) (found files d x.target at count))

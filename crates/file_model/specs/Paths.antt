@@ -89,12 +89,13 @@ pub data Place : Type 0 where
 abbrev pub walk_names : Files → ℕ → List Name → Place
 walk_names files here [] = Present here
 walk_names files here (name ∷ rest) =
-  cond (nat_lt 255 (length name)) (NoPlace ENAMETOOLONG)
-  (cond (not (node_of files here).directory) (NoPlace ENOTDIR)
-  (cond (bytes_eq name dot_dot) (walk_names files (node_of files here).parent rest)
-  (elim (child files here name) [
-  | None ↦ cond (length rest == 0) (Absent here name) (NoPlace ENOENT)
-  | Some n ↦ walk_names files n rest ])))
+    cond (nat_lt 255 (length name)) (NoPlace ENAMETOOLONG)
+    (cond (not (node_of files here).directory) (NoPlace ENOTDIR)
+    (cond (bytes_eq name dot_dot) (walk_names files (node_of files here).parent rest)
+    (elim (child files here name) [
+      | None ↦ cond (length rest == 0) (Absent here name) (NoPlace ENOENT)
+      | Some n ↦ walk_names files n rest
+    ])))
 
 -- where a relative path starts
 pub data Start : Type 0 where
@@ -107,7 +108,7 @@ is_unlinked n (Some name) = false
 
 abbrev pub start_at_node : Files → ℕ → Start
 start_at_node files n = let x = node_of files n in
-  cond (not x.directory) (NoStart ENOTDIR) (cond (is_unlinked n x.name) (NoStart ENOENT) (StartAt n))
+    cond (not x.directory) (NoStart ENOTDIR) (cond (is_unlinked n x.name) (NoStart ENOENT) (StartAt n))
 
 abbrev pub start_at_target : Files → Target → Start
 start_at_target files (OfNode n) = start_at_node files n
@@ -122,7 +123,7 @@ stands_for_root (negsuc n) = n == 99
 
 abbrev pub start_at_descriptor : Files → ℕ → ℤ → Start
 start_at_descriptor files process fd = cond (stands_for_root fd) (StartAt root)
-  (elim (described files process fd) [ None ↦ NoStart EBADF | Some d ↦ start_at_target files (description_of files d).target ])
+    (elim (described files process fd) [ None ↦ NoStart EBADF | Some d ↦ start_at_target files (description_of files d).target ])
 
 abbrev pub start_of : Files → ℕ → ℤ → List ℕ → Start
 start_of files process dirfd text = cond (is_absolute text) (StartAt root) (start_at_descriptor files process dirfd)
@@ -131,7 +132,8 @@ start_of files process dirfd text = cond (is_absolute text) (StartAt root) (star
 abbrev pub place_of_names : Files → ℕ → ℤ → List ℕ → List Name → Place
 place_of_names files process dirfd text names = elim (start_of files process dirfd text) [
   | NoStart errno ↦ NoPlace errno
-  | StartAt n ↦ cond (length text == 0) (NoPlace ENOENT) (walk_names files n (without_dots names)) ]
+  | StartAt n ↦ cond (length text == 0) (NoPlace ENOENT) (walk_names files n (without_dots names))
+]
 
 -- a final slash on a file is an error
 abbrev pub checked_slash : Files → List ℕ → Place → Place
@@ -150,7 +152,8 @@ add_file here [] bytes files = files
 add_file here (name ∷ []) bytes files = set_bytes files.next_node bytes (made here name false files)
 add_file here (name ∷ next ∷ names) bytes files = elim (child files here name) [
   | None ↦ add_file files.next_node (next ∷ names) bytes (made here name true files)
-  | Some n ↦ add_file n (next ∷ names) bytes files ]
+  | Some n ↦ add_file n (next ∷ names) bytes files
+]
 
 abbrev pub with_file : List ℕ → List ℕ → Files → Files
 with_file path bytes files = add_file root (names_of path) bytes files

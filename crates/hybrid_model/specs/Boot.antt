@@ -17,19 +17,19 @@ pub record Booted : Type 0 where
   pub frames : Map (List ℕ)
   pub free : List ℕ
 
-abbrev guest_space : Booted → Guest → Space
+abbrev pub guest_space : Booted → Guest → Space
 guest_space b g = copied_pages (entries (guest_memory g.image g.arguments)) (record { table = no_rows; frames = b.frames; free = b.free })
 
-abbrev with_guest : ℕ → Booted → Guest → Booted
+abbrev pub with_guest : ℕ → Booted → Guest → Booted
 with_guest rings b g =
     let sp = guest_space b g in
     record { sides = put b.sides g.number (record (new_side rings) { lwk = record no_lwk { table = sp.table } }); frames = sp.frames; free = sp.free }
 
-abbrev zero_frames : List ℕ → Map (List ℕ)
+abbrev pub zero_frames : List ℕ → Map (List ℕ)
 zero_frames [] = no_rows
 zero_frames (f ∷ fs) = put (zero_frames fs) f zero_page
 
-abbrev booted : Job → List Image → Booted
+abbrev pub booted : Job → List Image → Booted
 booted job images = fold (with_guest job.rings) (record { sides = no_rows; frames = zero_frames (count_from 0 job.frames); free = count_from 0 job.frames }) (guests_of job images)
 
 abbrev pub boot : Job → List Image → Pair
@@ -53,7 +53,7 @@ pub record Shortage : Type 0 where
   pub needed : ℕ
   pub free : ℕ
 
-abbrev shortage_from : ℕ → List Guest → Option Shortage
+abbrev pub shortage_from : ℕ → List Guest → Option Shortage
 shortage_from free [] = None
 shortage_from free (g ∷ gs) =
     let needed = needed_frames g.image in

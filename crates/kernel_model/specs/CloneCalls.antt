@@ -19,11 +19,11 @@ use Rattle.mck_word.specs.declared.Regs.{Regs}
 use Rattle.std.specs.List.{list_all}
 use Rattle.std.specs.Prelude.{Bool, List, None, Option, Some, [], cond, false, find, is_some, length, nat_le, nat_lt, negsuc, not, option_map, pos, suc, true, zero, ℕ, ℤ, ◌%◌, ◌&&◌, ◌*◌, ◌+◌, ◌==◌, ◌||◌, ◌∷◌}
 
-abbrev needed_flags : List ℕ
+abbrev pub needed_flags : List ℕ
 needed_flags = 8 ∷ 9 ∷ 10 ∷ 11 ∷ 16 ∷ []
 
 -- the bits of the flags that have to stand, and those that may: SYSVSEM, SETTLS, PARENT_SETTID, CHILD_CLEARTID, an ignored one, CHILD_SETTID
-abbrev are_clone_flags : ℕ → Bool
+abbrev pub are_clone_flags : ℕ → Bool
 are_clone_flags flags = list_all (λ b. has_bit b flags) needed_flags && minus flags 0x17d0f00 == 0
 
 abbrev pub cloned_thread : Node → Thread → ℕ → ℕ → ℕ → ℕ → Thread
@@ -55,7 +55,7 @@ clone t flags stack parent_tid tls child_tid v =
 
 -- ---- fork
 
-abbrev fork_signal : ℕ
+abbrev pub fork_signal : ℕ
 fork_signal = 17
 
 -- flags whose low eight bits are the signal 17, and whose other bits are among SETTLS, PARENT_SETTID, CHILD_CLEARTID and CHILD_SETTID
@@ -121,27 +121,27 @@ clone_or_fork t free flags stack parent_tid tls child_tid v =
 -- ---- wait4 and getppid
 
 -- whether pid selects the child
-abbrev selects : ℤ → ℕ → Bool
+abbrev pub selects : ℤ → ℕ → Bool
 selects (pos zero) child = true
 selects (pos (suc n)) child = suc n == child
 selects (negsuc zero) child = true
 selects (negsuc (suc n)) child = false
 
 -- a child of the process whose end wasn't waited for
-abbrev is_selected : ℕ → ℤ → ℕ → Process → Bool
+abbrev pub is_selected : ℕ → ℤ → ℕ → Process → Bool
 is_selected p pid number x = x.parent == p && not x.waited && selects pid number
 
 abbrev pub any_selected : Node → ℕ → ℤ → Bool
 any_selected node p pid = some_row (is_selected p pid) node.processes
 
-abbrev is_selected_end : ℕ → ℤ → ℕ → Process → Bool
+abbrev pub is_selected_end : ℕ → ℤ → ℕ → Process → Bool
 is_selected_end p pid number x = is_selected p pid number x && has_ended x.life
 
 -- the lowest selected child that is Ended
 abbrev pub ended_child : Node → ℕ → ℤ → Option ℕ
 ended_child node p pid = option_map (λ e. e.0) (find (λ e. is_selected_end p pid e.0 e.1) (entries node.processes))
 
-abbrev end_status : End → ℕ
+abbrev pub end_status : End → ℕ
 end_status (Exit code) = 256 * code
 end_status (Killed signal) = signal
 

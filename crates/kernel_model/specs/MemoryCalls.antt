@@ -44,7 +44,7 @@ is_aligned address = address % page_size == 0
 -- ---- rights
 
 -- a page with the write right also has the read right
-abbrev read_bit : ℕ → ℕ
+abbrev pub read_bit : ℕ → ℕ
 read_bit prot = cond (has_bit 0 prot || has_bit 1 prot) 1 0
 
 unfoldable pub rights_of_prot : ℕ → Rights

@@ -34,7 +34,7 @@ kill t pid signal v = elim (positive pid) [
   | Some p ↦ elim (checked_signal signal) [ None ↦ refuses t EINVAL v | Some s ↦ kills t p s v ]
 ]
 
-abbrev has_thread_in : Node → ℕ → ℕ → Bool
+abbrev pub has_thread_in : Node → ℕ → ℕ → Bool
 has_thread_in node p tid = has_thread node tid && (thread_of node tid).process == p
 
 abbrev pub kills_thread : ℕ → ℕ → ℕ → ℕ → View → View
@@ -93,7 +93,7 @@ new_mask how set mask = as_mask (elim how [
   | pos n ↦ cond (n == 0) (union mask set) (cond (n == 1) (minus mask set) set)
 ])
 
-abbrev is_how : ℤ → Bool
+abbrev pub is_how : ℤ → Bool
 is_how (pos n) = nat_le n 2
 is_how (negsuc n) = false
 
@@ -110,7 +110,7 @@ sigprocmask t how address old size v =
     (cond (not (can_read v address 8) || not (can_write v old 8)) (refuses t EFAULT v)
     (sets_mask t how address old v))
 
-abbrev pending_and_masked : Node → ℕ → ℕ
+abbrev pub pending_and_masked : Node → ℕ → ℕ
 pending_and_masked node t = let x = thread_of node t in common (union x.pending (process_of node x.process).pending) x.mask
 
 abbrev pub sigpending : ℕ → ℕ → ℕ → View → View

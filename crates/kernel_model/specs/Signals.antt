@@ -146,7 +146,7 @@ handler_regs a signal sp r =
 abbrev pub handler_mask : Action → ℕ → ℕ → ℕ
 handler_mask a signal mask = as_mask (union mask (cond (SA_NODEFER a) a.mask.0 (with_signal signal a.mask.0)))
 
-abbrev set_action : ℕ → Action → Process → Process
+abbrev pub set_action : ℕ → Action → Process → Process
 set_action signal a p = record p { actions = slice_set p.actions (signal - 1) a }
 
 abbrev pub with_action : ℕ → ℕ → Action → Node → Node

@@ -201,11 +201,11 @@ after_here (End q) p h = record (with_node (process_ended p h.node) h) { own = n
 
 -- ---- in the whole state
 
-abbrev of_line : Option ScriptLine → ℕ
+abbrev pub of_line : Option ScriptLine → ℕ
 of_line None = 0
 of_line (Some l) = l.process
 
-abbrev of_thread : Node → ℕ → ℕ
+abbrev pub of_thread : Node → ℕ → ℕ
 of_thread node t = (thread_of node t).process
 
 abbrev pub process_of_step : Node → Step → ℕ
