@@ -1,20 +1,21 @@
 -- Copy keeps what holds of the process.
 use Rattle.hybrid_model.specs.declared.events.Event.TheVariants as Events
 use Rattle.hybrid_laws.specs.HeldStep.{held-row, served_step, state-facts}
+use Rattle.hybrid_laws.specs.NodePrimitives.{then}
 use Rattle.hybrid_laws.specs.OneRequest.{goes_on, files-any}
 use Rattle.hybrid_laws.specs.Reading.{reads-put}
 use Rattle.hybrid_laws.specs.Tests.{both, not-true}
+use Rattle.hybrid_model.specs.Claims.{Reaches}
 use Rattle.hybrid_model.specs.Coherence.{OfProcess, Covers, PinServes, acked_at, is_faulted, service_at}
 use Rattle.hybrid_model.specs.Events.{after_here, copy, may_here}
 use Rattle.hybrid_model.specs.Linux.{copied, stepped_book, stepped_service, state_if, holds, is_uncopied, kind_for, may_copy, moved_by}
 use Rattle.hybrid_model.specs.Pairs.{Here}
-use Rattle.hybrid_model.specs.Sides.{Side, Service, service_of, LinuxSide, Row, pin_of, served}
+use Rattle.hybrid_model.specs.Sides.{Side, Service, service_of, LinuxSide, pin_of}
 use Rattle.hybrid_model.specs.Spaces.{frame_bytes}
 use Rattle.hybrid_model.specs.Tallies.{Reads, with_at}
 use Rattle.ikc_ring.specs.declared.Call.{Call}
-use Rattle.isa_model.specs.Memory.{allows}
 use Rattle.kernel_model.specs.Nodes.{Node}
-use Rattle.kernel_model.specs.Progress.{After, is_ready, needed_access, next_piece}
+use Rattle.kernel_model.specs.Progress.{After, is_ready, needed_access}
 use Rattle.mck_word.specs.Maps.{at, put}
 use Rattle.mck_word.specs.declared.Pid.{Pid}
 use Rattle.page_pins.specs.declared.Pin.{Pin}
@@ -97,13 +98,7 @@ module _ (p : ℕ) (h : Here) (ring_number : ℕ → ℕ) (k : OfProcess p h.sid
     let a = (moved_by p h.side.linux h.node.files w (frame_bytes h.frames (pin_of h.side.linux w).frame.0)).after in
     files-any p (record h.side { linux = copied h.side.linux w a; book = stepped_book h.side.linux h.side.book w a }) h.node h.workers ring_number a.files (keeps_copied p h.side h.node h.workers ring_number k w m.pin m.there m.fresh a)
 
--- The copy reaches the frame that the process's table gives to the page of the piece, with the right that it needs.
-pub record Reaches (s : Side) (w : ℕ) : Type 0 where
-  pub row : Row
-  pub there : at s.lwk.table (next_piece (served s.linux w).progress).page ≡ Some row
-  pub frame : row.0 ≡ (pin_of s.linux w).frame
-  pub right : allows (needed_access (served s.linux w).progress) row.1 ≡ true
-
+-- the copy reaches the frame that the process's table gives to the page of the piece, with the right that it needs
 pub reaches_copy : (p : ℕ) (h : Here) (ring_number : ℕ → ℕ) → OfProcess p h.side h.node h.workers ring_number → (q : Pid) (w : ℕ) → may_here (Events.Copy q w) h ≡ true → Reaches h.side w
 reaches_copy p h ring_number k q w e =
     let m = may-copy h q w e in
