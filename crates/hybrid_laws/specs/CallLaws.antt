@@ -7,7 +7,7 @@ use Rattle.file_model.specs.Files.{Files}
 use Rattle.file_model.specs.Operations.{FileResult}
 use Rattle.file_model.specs.declared.operations.FileOp.{FileOp}
 use Rattle.file_model.specs.declared.operations.FileOp.TheVariants.{Openat, Mkdirat, Unlinkat, Close, Lseek, Ioctl, Pipe2, Fstat, Getdents, Read as ReadAct, Write as WriteAct, Get, Put, Leave}
-use Rattle.hybrid_laws.specs.CallSteps.{Holds, StepCarries, act-find, act-plain, acts-rest, as-before, counted-most, ended, gives-back, is_act, settles}
+use Rattle.hybrid_laws.specs.CallSteps.{FoundHeld, StepCarries, act-find, act-plain, acts-rest, as-before, counted-most, ended, gives-back, is_act, settles}
 use Rattle.hybrid_laws.specs.Descriptions.{Carries, carries-beside, carries-same, carries-then}
 use Rattle.hybrid_laws.specs.FileOps.{FindStep, PlainStep, cond-case, find-read, find-write, plain-close, plain-fstat, plain-get, plain-getdents, plain-ioctl, plain-lseek, plain-mkdirat, plain-openat, plain-pipe2, plain-put, plain-unlinkat}
 use Rattle.hybrid_model.specs.Globals.{IsUnderWay, acts_left, description_held}
@@ -53,7 +53,7 @@ act-fits : (number : ℕ) (arguments : List ℕ) → member number delegated_cal
 act-fits number arguments e = by-member (λ n. Fits (is_read n || is_write n) (act_of n arguments)) delegated_calls
   (tt , (tt , (tt , (tt , (tt , (tt , (tt , (tt , (tt , (tt , (tt , (tt , (tt , (tt , (tt , tt))))))))))))))) number e
 
-module _ (p : Progress) (files : Files) (process : ℕ) (u : IsUnderWay p) (l : Holds files p.found) where
+module _ (p : Progress) (files : Files) (process : ℕ) (u : IsUnderWay p) (l : FoundHeld files p.found) where
   finding : (op : FileOp) (given : List ℕ) → Finding op → FindStep files (file_step files process op given)
   finding (ReadAct fd o n) given f = find-read files process fd o n
   finding (WriteAct fd o n) given f = find-write files process fd o n
@@ -106,7 +106,7 @@ module _ (p : Progress) (files : Files) (process : ℕ) (u : IsUnderWay p) (l : 
     (plain-put files (description_found p) (offset_argument p) p.moved (next_piece p).len given)
 
   -- what the call holds is still held after an operation that keeps it
-  still-held : (r : FileResult) → PlainStep files r → Holds r.files p.found
+  still-held : (r : FileResult) → PlainStep files r → FoundHeld r.files p.found
   still-held r s d e = omega (arith, s.kept.calls d, l d e)
 
   stream-ends : (r : FileResult) → PlainStep files r → StepCarries p files (stream_end p r)
@@ -140,7 +140,7 @@ module _ (p : Progress) (files : Files) (process : ℕ) (u : IsUnderWay p) (l : 
 
     settled-onward : (q : Progress) → q.number ≡ p.number → q.found ≡ p.found → acts_left q.phases + counted q.found ≤ 1 → StepCarries p files (settle q files)
     settled-onward q n f a =
-      let held : Holds files q.found = subst (Holds files) (sym f) l in
+      let held : FoundHeld files q.found = subst (FoundHeld files) (sym f) l in
       let t = settles q files (ap (λ (j : ℕ). member j delegated_calls) n ∙ u.delegated) a held in
       record { kept = subst (λ (o : Option ℕ). Carries o (description_held (status_after (settle q files))) files.descriptions (settle q files).files.descriptions) f t.kept; goes = t.goes }
 

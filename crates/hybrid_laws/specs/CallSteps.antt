@@ -22,10 +22,10 @@ pub record StepCarries (p : Progress) (files : Files) (a : After) : Type 0 where
   pub goes : StatusHolds (status_after a)
 
 -- a description that the call holds is held
-abbrev pub Holds : Files → Option ℕ → Type 0
-Holds files o = (d : ℕ) → o ≡ Some d → 1 ≤ calls_at files.descriptions d
+abbrev pub FoundHeld : Files → Option ℕ → Type 0
+FoundHeld files o = (d : ℕ) → o ≡ Some d → 1 ≤ calls_at files.descriptions d
 
-pub gives-back : (files : Files) (o : Option ℕ) → Holds files o → Carries o None files.descriptions (given_back (record no_progress { found = o }) files).descriptions
+pub gives-back : (files : Files) (o : Option ℕ) → FoundHeld files o → Carries o None files.descriptions (given_back (record no_progress { found = o }) files).descriptions
 gives-back files None l = carries-same None files.descriptions
 gives-back files (Some d) l = carries-leave files d (l d refl)
 
@@ -77,7 +77,7 @@ counted-most None = omega arith
 counted-most (Some d) = omega arith
 
 -- ---- phases that are used up are passed over, and the call ends where none is left
-pub settles : (p : Progress) (files : Files) → member p.number delegated_calls ≡ true → acts_left p.phases + counted p.found ≤ 1 → Holds files p.found → StepCarries p files (settle p files)
+pub settles : (p : Progress) (files : Files) → member p.number delegated_calls ≡ true → acts_left p.phases + counted p.found ≤ 1 → FoundHeld files p.found → StepCarries p files (settle p files)
 settles p files d acts l = go (length (drop_used_up p.phases) == 0) refl
   where
     q : Progress
@@ -86,7 +86,7 @@ settles p files d acts l = go (length (drop_used_up p.phases) == 0) refl
     go true e = record { kept = gives-back files p.found l; goes = tt }
     go false e = record { kept = carries-same p.found files.descriptions; goes = record { delegated = d; phases = grind (arith, nat_tests, e); acts = omega (arith, acts-dropped p.phases, acts) } }
 
-module _ (p : Progress) (files : Files) (process : ℕ) (u : IsUnderWay p) (l : Holds files p.found) where
+module _ (p : Progress) (files : Files) (process : ℕ) (u : IsUnderWay p) (l : FoundHeld files p.found) where
   -- the step ends the call, or changes nothing that is held
   pub ended : (answer : ℤ) (q : Progress) → q.found ≡ p.found → StepCarries p files (ends answer q files)
   ended answer q e = record { kept = subst (λ (o : Option ℕ). Carries p.found None files.descriptions (given_back (record no_progress { found = o }) files).descriptions) (sym e) (gives-back files p.found l); goes = tt }

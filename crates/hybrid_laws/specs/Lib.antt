@@ -95,3 +95,4 @@ pub mod Copying
 pub mod NewSide
 pub mod TrapForks
 pub mod WholeCopy
+pub mod LinuxHolds

@@ -1,6 +1,6 @@
 -- The step from one process to the whole state for an event that steps the call of a worker: its request was Held, the files change, and the turn of its end is given up.
 use Rattle.file_model.specs.Files.{Files}
-use Rattle.hybrid_laws.specs.CallSteps.{Holds}
+use Rattle.hybrid_laws.specs.CallSteps.{FoundHeld}
 use Rattle.hybrid_laws.specs.Descriptions.{Carries, calls_at, holds_it}
 use Rattle.hybrid_laws.specs.Speaking.{the-caller}
 use Rattle.hybrid_laws.specs.Totals.{entries-but, entries-least, entries-two}
@@ -106,7 +106,7 @@ module _ (pair : Pair) (c : Coherent pair) (p : ℕ) (there : is_there pair.node
   own-counts d = ap (λ s. cond (is_number d (description_held s)) 1 0) (ap (status_of old) caller-number ∙ status-before)
 
   -- the description that the call holds is held
-  pub found-held : Holds pair.node.files progress.found
+  pub found-held : FoundHeld pair.node.files progress.found
   found-held d e =
     let a = entries-least (counts_one d old) old.lwk.callers call.tid.0 caller caller-there in
     let b : holds_it d progress.found ≡ 1 = ap (holds_it d) e ∙ (let z : (d == d) ≡ true = grind (arith, nat_tests) in rw z refl) in

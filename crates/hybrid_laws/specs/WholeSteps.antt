@@ -1,7 +1,9 @@
 -- The step from one process to the whole state, for the simulation: the steps of an image may happen one after another in the whole one-kernel state, and lead to what the two kernels show after.
 use Rattle.kernel_model.specs.Steps as OneSteps
+use Rattle.hybrid_laws.specs.Act.{others}
 use Rattle.hybrid_laws.specs.Simulated.{Simulated, steps_after, steps_may}
 use Rattle.hybrid_laws.specs.Tests.{both}
+use Rattle.hybrid_model.specs.Claims.{Runs}
 use Rattle.hybrid_model.specs.Events.{after_here, process_of_event, after}
 use Rattle.hybrid_model.specs.Images.{image, image_here}
 use Rattle.hybrid_model.specs.Pairs.{Here, Pair, here, put_here, side_of, with_born}
@@ -17,9 +19,8 @@ use Rattle.std.proofs.Common.{ap, arith, refl, sym, ◌∙◌}
 use Rattle.std.proofs.lemmas.Bool.Decides.{nat_tests}
 use Rattle.std.specs.Prelude.{Bool, List, None, Option, Some, [], cond, false, length, true, unwrap_or, ℕ, ◌&&◌, ◌==◌, ◌∷◌, ◌≡◌}
 
-pub record SimulatedPair (pair : Pair) (e : Event) : Type 0 where
-  pub may_happen : OneSteps.may_all (one pair) (image pair e) ≡ true
-  pub leads : OneSteps.after_all (one pair) (image pair e) ≡ one (after pair e)
+abbrev pub SimulatedPair : Pair → Event → Type 0
+SimulatedPair pair e = Runs (one pair) (image pair e) (one (after pair e))
 
 -- at most one step, of process p
 abbrev pub AtMostOne : Node → ℕ → List Step → Type 0
@@ -85,13 +86,13 @@ module _ (pair : Pair) (p : ℕ) (present : at pair.sides p ≡ Some (side_of pa
       by-steps : (ss : List Step) → image_here e p (here pair p) ≡ ss → AtMostOne pair.node p ss → steps_may p ss (shown_here (here pair p)) ≡ true → steps_after p ss (shown_here (here pair p)) ≡ shown_here (after_here e p (here pair p)) → SimulatedPair pair e
       by-steps [] f m a l =
         let i = image-is ∙ f in
-        record { may_happen = ap (OneSteps.may_all (one pair)) i;
-          leads = ap (OneSteps.after_all (one pair)) i ∙ sym put-same ∙ ap (put_one_here (one pair) p) l ∙ sym ends }
+        record { may = ap (OneSteps.may_all (one pair)) i;
+          leaves = ap (OneSteps.after_all (one pair)) i ∙ sym put-same ∙ ap (put_one_here (one pair) p) l ∙ sym ends }
       by-steps (x ∷ []) f m a l =
         let i = image-is ∙ f in
         let b = both (OneSteps.may_here x (shown_here (here pair p))) true a in
         record {
-          may_happen = ap (OneSteps.may_all (one pair)) i ∙ ap (λ (y : ℕ). OneSteps.may_here x (one_here (one pair) y) && true) m ∙ ap (λ h. OneSteps.may_here x h && true) one-here ∙ a;
-          leads = ap (OneSteps.after_all (one pair)) i ∙ ap (λ (y : ℕ). put_one_here (one pair) y (OneSteps.after_here x y (one_here (one pair) y))) m
+          may = ap (OneSteps.may_all (one pair)) i ∙ ap (λ (y : ℕ). OneSteps.may_here x (one_here (one pair) y) && true) m ∙ ap (λ h. OneSteps.may_here x h && true) one-here ∙ a;
+          leaves = ap (OneSteps.after_all (one pair)) i ∙ ap (λ (y : ℕ). put_one_here (one pair) y (OneSteps.after_here x y (one_here (one pair) y))) m
             ∙ ap (λ h. put_one_here (one pair) p (OneSteps.after_here x p h)) one-here ∙ ap (put_one_here (one pair) p) l ∙ sym ends }
       by-steps (x ∷ y ∷ ss) f m a l = absurd m
