@@ -12,7 +12,6 @@ use Rattle.kernel_model.specs.Plans.{Gather, Scatter, Stream, act_of, delegated_
 use Rattle.kernel_model.specs.Progress.{After, Progress, answer_of, drop_used_up, ends, settle, settled_progress, with_scatter, without_empty, given_back, no_progress}
 use Rattle.kernel_model.specs.Steps.{status_after}
 use Rattle.mck_word.specs.Lists.{member, tail}
-use Rattle.mck_word.specs.Maps.{at}
 use Rattle.std.proofs.Common.{ap, arith, refl, subst, sym}
 use Rattle.std.proofs.lemmas.Bool.Decides.{nat_tests}
 use Rattle.std.specs.Prelude.{Bool, List, None, Option, Some, [], cond, false, get_or, length, negsuc, pos, true, ℕ, ℤ, ◌+◌, ◌==◌, ◌∷◌, ◌≡◌, ◌≤◌}

@@ -1,7 +1,6 @@
 -- Copy keeps what holds of the process.
 use Rattle.hybrid_model.specs.declared.events.Event.TheVariants as Events
 use Rattle.hybrid_laws.specs.HeldStep.{held-row, served_step, state-facts}
-use Rattle.hybrid_laws.specs.NodePrimitives.{then}
 use Rattle.hybrid_laws.specs.OneRequest.{goes_on, files-any}
 use Rattle.hybrid_laws.specs.Reading.{reads-put}
 use Rattle.hybrid_laws.specs.Tests.{both, not-true}

@@ -1,7 +1,6 @@
 -- Unpark in the whole state.
 use Rattle.hybrid_model.specs.declared.events.Event.TheVariants as Events
 use Rattle.file_model.specs.Files.{description_of}
-use Rattle.hybrid_laws.specs.NodePrimitives.{then}
 use Rattle.hybrid_laws.specs.Reading.{reads-stated}
 use Rattle.hybrid_laws.specs.Speaking.{the-thread}
 use Rattle.hybrid_laws.specs.Tests.{both}
