@@ -1,9 +1,10 @@
 -- Pages added at the lowest free frames, and pages with other rights: other rows stay, frames stay apart, and the one-kernel machine does the same.
 use Rattle.kernel_model.specs.Spaces as one
 use Rattle.hybrid_laws.specs.Dropping.{shown_space, with_table}
-use Rattle.hybrid_laws.specs.NodePrimitives.{at-change}
+use Rattle.hybrid_laws.specs.NodePrimitives.{at-change, then}
 use Rattle.hybrid_laws.specs.Reading.{reads-put}
 use Rattle.hybrid_model.specs.Globals.{Frames, Rising, copies}
+use Rattle.hybrid_model.specs.Shown.{one}
 use Rattle.hybrid_model.specs.Sides.{Row}
 use Rattle.hybrid_model.specs.Spaces.{Space, add_page, first_number, frame_bytes, protect_page, rest_numbers, shown_memory, shown_row}
 use Rattle.hybrid_model.specs.Tallies.{Reads, with_at}

@@ -1,5 +1,6 @@
 -- Answer keeps what holds of every process, with a row or without.
 use Rattle.hybrid_model.specs.declared.events.Event.TheVariants as Events
+use Rattle.hybrid_laws.specs.NodePrimitives.{then}
 use Rattle.hybrid_laws.specs.Placing.{Marked-post, Messages-post}
 use Rattle.hybrid_laws.specs.Reading.{EachRing-post, reads-cut, sum-post}
 use Rattle.hybrid_laws.specs.Tests.{both, not-true}

@@ -4,6 +4,7 @@ use Rattle.kernel_model.specs.declared.steps.Step.TheVariants as Steps
 use Rattle.hybrid_model.specs.declared.events.Event.TheVariants as Events
 use Rattle.hybrid_laws.specs.AnswerKeeps.{MayAnswer, may_be_answered}
 use Rattle.hybrid_laws.specs.IntakeFault.{at-most}
+use Rattle.hybrid_laws.specs.NodePrimitives.{then}
 use Rattle.hybrid_laws.specs.Showing.{has_empty-post, no_empty, shown-same}
 use Rattle.hybrid_laws.specs.Simulated.{Simulated, simulated-none, simulated-one}
 use Rattle.hybrid_laws.specs.Speaking.{calls-after, shown-call-at, the-caller, thread-served-is}

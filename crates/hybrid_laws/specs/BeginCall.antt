@@ -1,4 +1,5 @@
 -- The Trap of a delegated call: its number, its Request, its caller's row. It keeps what holds of the process.
+use Rattle.hybrid_laws.specs.NodePrimitives.{then}
 use Rattle.hybrid_laws.specs.Reading.{Each-map, EachRing-post, sum-post}
 use Rattle.hybrid_laws.specs.Requests.{PinServes-keeps}
 use Rattle.hybrid_model.specs.Coherence.{Covered, Rounded, Served, Answered, CallHolds, AnswerCovered, AnswerIsFor, ClearIsOf, IsOutside, NotAhead, ReplyIsAwaited, answers_to, asks, calls_it, clears, is_live, tid_in}
@@ -8,6 +9,7 @@ use Rattle.hybrid_model.specs.Tallies.{Reads, with_at, if_same}
 use Rattle.ikc_ring.specs.declared.Call.{Call}
 use Rattle.ikc_ring.specs.declared.Msg.{Msg}
 use Rattle.ikc_ring.specs.declared.Msg.TheVariants.{Request, Clear, Answer, Interrupt, Reply, Ack, Fault}
+use Rattle.mck_word.specs.Maps.{at}
 use Rattle.page_pins.specs.declared.Pin.{Pin}
 use Rattle.request_book.specs.declared.ReqState.{ReqState}
 use Rattle.request_book.specs.declared.ReqState.TheVariants.{Posted}

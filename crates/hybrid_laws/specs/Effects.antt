@@ -2,10 +2,12 @@
 use Rattle.kernel_model.specs.Spaces as one
 use Rattle.hybrid_laws.specs.Adding.{add_other, frames_add, frames_protect, outside_range, protect_other, shown_add, shown_protect}
 use Rattle.hybrid_laws.specs.Dropping.{drop_other, frames_drops, shown_drops, shown_space, with_table}
+use Rattle.hybrid_laws.specs.NodePrimitives.{then}
 use Rattle.hybrid_laws.specs.RunEvent.{TableApart}
 use Rattle.hybrid_laws.specs.Sums.{counted_at, sum_of, total-cut-by}
 use Rattle.hybrid_laws.specs.Written.{each-entry}
 use Rattle.hybrid_model.specs.Globals.{Frames, copies}
+use Rattle.hybrid_model.specs.Shown.{one}
 use Rattle.hybrid_model.specs.Sides.{Row}
 use Rattle.hybrid_model.specs.Spaces.{Space, add_page, after_effect, drop_page, protect_page, rest_numbers, shown_memory}
 use Rattle.hybrid_model.specs.Tallies.{Each, Reads}

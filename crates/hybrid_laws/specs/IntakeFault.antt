@@ -1,5 +1,6 @@
 -- Intake of a Fault keeps what holds of the process, and shows nothing.
 use Rattle.hybrid_model.specs.declared.events.Event.TheVariants as Events
+use Rattle.hybrid_laws.specs.NodePrimitives.{then}
 use Rattle.hybrid_laws.specs.Reading.{reads-put}
 use Rattle.hybrid_laws.specs.Showing.{shown-same}
 use Rattle.hybrid_laws.specs.Simulated.{Simulated, simulated-none}

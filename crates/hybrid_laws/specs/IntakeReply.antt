@@ -4,7 +4,7 @@ use Rattle.kernel_model.specs.declared.steps.Step.TheVariants as Steps
 use Rattle.hybrid_model.specs.declared.events.Event.TheVariants as Events
 use Rattle.hybrid_laws.specs.Lookups.{CallerIs, caller-found}
 use Rattle.hybrid_laws.specs.NodeKeeps.{Keeps, node-keeps, calls-found, interrupts-stay, messages-stay, owned-keeps}
-use Rattle.hybrid_laws.specs.NodePrimitives.{returns-free}
+use Rattle.hybrid_laws.specs.NodePrimitives.{then, returns-free}
 use Rattle.hybrid_laws.specs.Placing.{EachNumbered-map}
 use Rattle.hybrid_laws.specs.Reading.{Each-where, reads-cut}
 use Rattle.hybrid_laws.specs.Simulated.{Simulated, simulated-one}

@@ -3,7 +3,7 @@ use Rattle.kernel_model.specs.Steps as OneSteps
 use Rattle.kernel_model.specs.declared.steps.Step.TheVariants as Steps
 use Rattle.hybrid_model.specs.declared.events.Event.TheVariants as Events
 use Rattle.hybrid_laws.specs.NodeKeeps.{node-keeps}
-use Rattle.hybrid_laws.specs.NodePrimitives.{called_back-free, moved-keeps}
+use Rattle.hybrid_laws.specs.NodePrimitives.{called_back-free, moved-keeps, then}
 use Rattle.hybrid_laws.specs.PostInterrupt.{Messages-interrupt}
 use Rattle.hybrid_laws.specs.Reading.{Each-map, EachRing-post, reads-put, sum-post}
 use Rattle.hybrid_laws.specs.Showing.{has_empty-post}

@@ -1,4 +1,5 @@
 -- The Interrupt of a call that is not marked, posted to its thread's ring, keeps what is said of the messages of each place.
+use Rattle.hybrid_laws.specs.NodePrimitives.{then}
 use Rattle.hybrid_laws.specs.Placing.{EachNumbered-map}
 use Rattle.hybrid_laws.specs.PostRequest.{Each-place, post-numbered}
 use Rattle.hybrid_laws.specs.Reading.{Each-both, Each-map, Each-push, Each-where}
@@ -10,6 +11,7 @@ use Rattle.ikc_ring.specs.declared.Call.{Call}
 use Rattle.ikc_ring.specs.declared.Msg.{Msg}
 use Rattle.ikc_ring.specs.declared.Msg.TheVariants.{Ack, Answer, Clear, Fault, Interrupt, Reply, Request}
 use Rattle.kernel_model.specs.Nodes.{Thread}
+use Rattle.mck_word.specs.Maps.{at}
 use Rattle.mck_word.specs.declared.Req.{Req}
 use Rattle.request_book.specs.declared.ReqState.{ReqState}
 use Rattle.std.proofs.Common.{ap, arith, refl, subst, sym, ◌∙◌}

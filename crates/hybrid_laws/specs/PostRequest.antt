@@ -1,4 +1,5 @@
 -- A Request posted to its thread's ring keeps what is said of the messages of each place.
+use Rattle.hybrid_laws.specs.NodePrimitives.{then}
 use Rattle.hybrid_laws.specs.Reading.{Each-both, Each-map, Each-push, EachRing-both}
 use Rattle.hybrid_model.specs.Coherence.{IsPart, is_of_place, is_posted, of_place, Answered, CallsAgree, InOwnRing, Placed, RequestIs, calls_it, is_live, place_in, state_at, tid_in, AtMostInterrupt, Messages, OnlyOwn}
 use Rattle.hybrid_model.specs.Rings.{post}
@@ -8,6 +9,7 @@ use Rattle.ikc_ring.specs.declared.Call.{Call}
 use Rattle.ikc_ring.specs.declared.Msg.{Msg}
 use Rattle.ikc_ring.specs.declared.Msg.TheVariants.{Request, Clear, Answer, Interrupt, Reply, Ack, Fault}
 use Rattle.kernel_model.specs.Nodes.{Thread}
+use Rattle.mck_word.specs.Maps.{at}
 use Rattle.request_book.specs.declared.ReqState.{ReqState}
 use Rattle.request_book.specs.declared.ReqState.TheVariants.{Posted}
 use Rattle.std.proofs.Common.{arith, refl, sym, ◌∙◌, ap, subst}

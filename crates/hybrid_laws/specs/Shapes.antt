@@ -1,5 +1,5 @@
 -- Stores and instructions change no page's rights, and make and take away no page.
-use Rattle.hybrid_laws.specs.NodePrimitives.{at-change}
+use Rattle.hybrid_laws.specs.NodePrimitives.{at-change, then}
 use Rattle.hybrid_laws.specs.Written.{SameShape, shown_written}
 use Rattle.hybrid_model.specs.Lwk.{run_for}
 use Rattle.hybrid_model.specs.Sides.{Row}

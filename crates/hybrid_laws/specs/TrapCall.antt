@@ -1,6 +1,7 @@
 -- The Trap of a delegated call: the whole process.
 use Rattle.hybrid_laws.specs.BeginCall.{answered_call, covered-call, rounded-call, served_call}
 use Rattle.hybrid_laws.specs.NodeKeeps.{closing-same}
+use Rattle.hybrid_laws.specs.NodePrimitives.{then}
 use Rattle.hybrid_laws.specs.PostRequest.{Messages-request, IsGiven}
 use Rattle.hybrid_laws.specs.Reading.{EachRing-map, EachRing-post, reads-put, sum-post}
 use Rattle.hybrid_laws.specs.Tests.{no-none}
