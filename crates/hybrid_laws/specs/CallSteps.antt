@@ -81,6 +81,7 @@ settles p files d acts l = go (length (drop_used_up p.phases) == 0) refl
   where
     q : Progress
     q = settled_progress p
+
     go : (b : Bool) → (length (drop_used_up p.phases) == 0) ≡ b → StepCarries p files (cond b (ends (answer_of (settled_progress p)) (settled_progress p) files) (Steps.goes_on (settled_progress p) files))
     go true e = record { kept = gives-back files p.found l; goes = tt }
     go false e = record { kept = carries-same p.found files.descriptions; goes = record { delegated = d; phases = grind (arith, nat_tests, e); acts = omega (arith, acts-dropped p.phases, acts) } }
@@ -100,7 +101,7 @@ module _ (p : Progress) (files : Files) (process : ℕ) (u : IsUnderWay p) (l : 
   -- an act is the first to find a description
   no-found : get_or p.phases 0 Phases.Act ≡ Phases.Act → (p.found ≡ None) × (acts_left (tail p.phases) ≡ 0)
   no-found e = let a = ap is_act e in
-    (none p.found refl (omega (arith, acts-first p.phases u.phases, a, u.acts)), omega (arith, acts-first p.phases u.phases, a, u.acts))
+      (none p.found refl (omega (arith, acts-first p.phases u.phases, a, u.acts)), omega (arith, acts-first p.phases u.phases, a, u.acts))
     where
       none : (o : Option ℕ) → p.found ≡ o → counted o ≤ 0 → o ≡ None
       none None f c = refl
@@ -119,34 +120,39 @@ module _ (p : Progress) (files : Files) (process : ℕ) (u : IsUnderWay p) (l : 
 
     pub act-find : FindStep files r → StepCarries p files (elim r.answer [
       | negsuc n ↦ record { progress = p; ended = Some (negsuc n); files = r.files }
-      | pos n ↦ settle (record p { found = Some n; phases = tail p.phases }) r.files ])
+      | pos n ↦ settle (record p { found = Some n; phases = tail p.phases }) r.files
+    ])
     act-find s = go r.answer s.kept
       where
         go : (z : ℤ) → FindsAt z files.descriptions r.files.descriptions → StepCarries p files (elim z [
           | negsuc n ↦ record { progress = p; ended = Some (negsuc n); files = r.files }
-          | pos n ↦ settle (record p { found = Some n; phases = tail p.phases }) r.files ])
+          | pos n ↦ settle (record p { found = Some n; phases = tail p.phases }) r.files
+        ])
         go (negsuc n) c = record { kept = with-found c; goes = tt }
         go (pos n) c =
-          let q : Progress = record p { found = Some n; phases = tail p.phases } in
-          let f = (no-found is) in
-          let a = f.1 in
-          steps-then p q files r.files (settle q r.files) (subst (λ (o : Option ℕ). Carries o (Some n) files.descriptions r.files.descriptions) (sym f.0) c)
+            let q : Progress = record p { found = Some n; phases = tail p.phases } in
+            let f = (no-found is) in
+            let a = f.1 in
+            steps-then p q files r.files (settle q r.files) (subst (λ (o : Option ℕ). Carries o (Some n) files.descriptions r.files.descriptions) (sym f.0) c)
             (settles q r.files u.delegated (omega (arith, a)) (λ d e. let g : n ≡ d = cc in let k = c.calls d in let b : (n == d) ≡ true = grind (arith, nat_tests, g) in let x : 1 ≤ calls_at r.files.descriptions d = omega (arith, rw b at k) in x))
 
     pub act-plain : PlainStep files r → StepCarries p files (elim r.answer [
       | negsuc n ↦ record { progress = p; ended = Some (negsuc n); files = r.files }
-      | pos n ↦ settle (record p { answer = pos n; buffer = r.out; phases = with_scatter r.out (tail p.phases) }) r.files ])
+      | pos n ↦ settle (record p { answer = pos n; buffer = r.out; phases = with_scatter r.out (tail p.phases) }) r.files
+    ])
     act-plain s = go r.answer
       where
         f : (p.found ≡ None) × (acts_left (tail p.phases) ≡ 0)
         f = no-found is
+
         go : (z : ℤ) → StepCarries p files (elim z [
           | negsuc n ↦ record { progress = p; ended = Some (negsuc n); files = r.files }
-          | pos n ↦ settle (record p { answer = pos n; buffer = r.out; phases = with_scatter r.out (tail p.phases) }) r.files ])
+          | pos n ↦ settle (record p { answer = pos n; buffer = r.out; phases = with_scatter r.out (tail p.phases) }) r.files
+        ])
         go (negsuc n) = record { kept = with-found s.kept; goes = tt }
         go (pos n) =
-          let q : Progress = record p { answer = pos n; buffer = r.out; phases = with_scatter r.out (tail p.phases) } in
-          let a = f.1 in
-          let b = ap (counted {A = ℕ}) f.0 in
-          steps-then p q files r.files (settle q r.files) (carries-beside p.found files.descriptions r.files.descriptions s.kept)
+            let q : Progress = record p { answer = pos n; buffer = r.out; phases = with_scatter r.out (tail p.phases) } in
+            let a = f.1 in
+            let b = ap (counted {A = ℕ}) f.0 in
+            steps-then p q files r.files (settle q r.files) (carries-beside p.found files.descriptions r.files.descriptions s.kept)
             (settles q r.files u.delegated (omega (arith, acts-scatter r.out (tail p.phases), a, b)) (λ d e. absurd (let g = f.0 in grind (arith, e, g))))

@@ -97,15 +97,15 @@ module _ (pair : Pair) (c : Coherent pair) (q : Pid) (w : ℕ) (e : may pair (Ev
   status-now : status_of side_left n ≡ status_after moved.after
   status-now = status-own h.side n Held (state_if moved.after.ended) row-is.0 row-is.1 h.side.linux.mirror pins' h.side.linux.workers services' h.side.linux.cleared h.side.book.waiting
       (stepped_service before moved.after) (put-own h.side.linux.services n (stepped_service before moved.after))
-    ∙ status-if moved.after row-is.0 before (has_empty (at h.side.linux.workers) n h.side.to_linux) (reply_code n h.side.to_lwk)
+      ∙ status-if moved.after row-is.0 before (has_empty (at h.side.linux.workers) n h.side.to_linux) (reply_code n h.side.to_lwk)
 
   status-rest : (x : ℕ) → (x == n) ≡ false → status_of side_left x ≡ status_of h.side x
   status-rest = status-others h.side n Held (state_if moved.after.ended) row-is.0 row-is.1 h.side.linux.mirror pins' h.side.linux.workers services' h.side.linux.cleared h.side.book.waiting
-    (put-other h.side.linux.services n (stepped_service before moved.after)) (λ x f v. refl)
+      (put-other h.side.linux.services n (stepped_service before moved.after)) (λ x f v. refl)
 
   pub coherent_copy : Coherent (after pair (Events.Copy q w))
   coherent_copy = subst (λ (x : Here). Coherent (put_here pair p x)) (sym copy-is)
-    (coherent-step pair c p there w n row-is.0 served-pin.serves row-is.1 side_left moved.after.files (put h.frames frame moved.page) (status_after moved.after) refl
+      (coherent-step pair c p there w n row-is.0 served-pin.serves row-is.1 side_left moved.after.files (put h.frames frame moved.page) (status_after moved.after) refl
       status-now status-rest carried.kept carried.goes kept-side refl refl refl
       (λ x f u. ap (λ o. waits_or_held (state_in o)) (stated-other (state_if moved.after.ended) n h.side.book.rows x f) ∙ u)
       (λ x f. ap (λ (o : Option Service). (unwrap_or o no_service).progress) (put-other h.side.linux.services n (stepped_service before moved.after) x f)))
@@ -123,30 +123,31 @@ module _ (pair : Pair) (c : Coherent pair) (q : Pid) (w : ℕ) (e : may pair (Ev
     where
       row-there : table_of pair x i ≡ Some r
       row-there = ap (λ (o : Option Side). at (unwrap_or o (new_side 0)).lwk.table i) f ∙ e
+
       go : (b : Bool) → (r.0.0 == frame) ≡ b → b ≡ false
       go false g = refl
       go true g = absurd (let y : r.0.0 ≡ frame = grind (arith, nat_tests, g) in
-        let z = c.frames.apart x i r p copy_may.pin.page covers.row row-there covers.there ((λ l. record { 0 = y l }) ∙ sym covers.frame) in
-        let v = z.0 in grind (arith, nat_tests, v, a))
+          let z = c.frames.apart x i r p copy_may.pin.page covers.row row-there covers.there ((λ l. record { 0 = y l }) ∙ sym covers.frame) in
+          let v = z.0 in grind (arith, nat_tests, v, a))
 
   frames-rest : (x : ℕ) (s : Side) → (x == p) ≡ false → at pair.sides x ≡ Some s → shown_own (put h.frames frame moved.page) s ≡ shown_own pair.frames s
   frames-rest x s a f =
-    let e = each-same (shown_row (put h.frames frame moved.page)) (shown_row pair.frames) s.lwk.table (λ i r g. same-row r (other-frame x s a f i r g)) in
-    λ l. record { memory = e l; calls = each (shown_call s) s.lwk.callers }
+      let e = each-same (shown_row (put h.frames frame moved.page)) (shown_row pair.frames) s.lwk.table (λ i r g. same-row r (other-frame x s a f i r g)) in
+      λ l. record { memory = e l; calls = each (shown_call s) s.lwk.callers }
     where
       same-row : (r : Row) → (r.0.0 == frame) ≡ false → shown_row (put h.frames frame moved.page) r ≡ shown_row pair.frames r
       same-row r n =
-        let b = ap (λ o. unwrap_or o zero_page) (at-put h.frames frame moved.page r.0.0 ∙ ap (λ b. cond b (Some moved.page) (at h.frames r.0.0)) n) in
-        λ l. record { rights = r.1; bytes = b l }
+          let b = ap (λ o. unwrap_or o zero_page) (at-put h.frames frame moved.page r.0.0 ∙ ap (λ b. cond b (Some moved.page) (at h.frames r.0.0)) n) in
+          λ l. record { rights = r.1; bytes = b l }
 
   thread-own : (thread_of pair.node (thread_served h.side w)).process ≡ p
   thread-own =
-    let t = the-thread p h.side h.node h.workers (ring_number pair) k n Held row-is.0 row-is.1 refl in
-    ap (λ (x : ℕ). (thread_of pair.node x).process) (thread-served-is h.side w n Held row-is.0 served-pin.serves row-is.1) ∙ ap (λ (o : Option Thread). (unwrap_or o no_thread).process) t.1 ∙ t.2
+      let t = the-thread p h.side h.node h.workers (ring_number pair) k n Held row-is.0 row-is.1 refl in
+      ap (λ (x : ℕ). (thread_of pair.node x).process) (thread-served-is h.side w n Held row-is.0 served-pin.serves row-is.1) ∙ ap (λ (o : Option Thread). (unwrap_or o no_thread).process) t.1 ∙ t.2
 
   pub simulated_copy : SimulatedPair pair (Events.Copy q w)
   simulated_copy = simulated-pair pair p (has-side pair c.known p there) (Events.Copy q w) refl (simulates_copy p h (ring_number pair) k q w allowed rows-apart refl) thread-own
-    (ap (λ (x : Here). x.born) copy-is) (λ x s a f. ap (λ (y : Here). shown_own y.frames s) copy-is ∙ frames-rest x s a f)
+      (ap (λ (x : Here). x.born) copy-is) (λ x s a f. ap (λ (y : Here). shown_own y.frames s) copy-is ∙ frames-rest x s a f)
 
   -- the copy reaches the frame that the table gives
   pub copy_reaches : CopyReaches pair (Events.Copy q w)
