@@ -37,11 +37,12 @@ module _ {V : Type 0} where
     where
       a : (fin.below_all nat_cmp e.0 es ≡ true) × (fin.is_sorted nat_cmp es ≡ true)
       a = both (fin.below_all nat_cmp e.0 es) (fin.is_sorted nat_cmp es) s
+
       go : (b : Bool) → (j == e.0) ≡ b → or_else (fin.find nat_cmp j es) (cond b (Some e.1) (at m j)) ≡ or_else (cond b (Some e.1) (fin.find nat_cmp j es)) (at m j)
       go true f =
-        let g : j ≡ e.0 = grind (arith, nat_tests, f) in
-        let n = none-below (λ (v : ℕ × V). 0) j e.0 es (let h = g in omega (arith, h)) a.0 in
-        rw n refl
+          let g : j ≡ e.0 = grind (arith, nat_tests, f) in
+          let n = none-below (λ (v : ℕ × V). 0) j e.0 es (let h = g in omega (arith, h)) a.0 in
+          rw n refl
       go false f = refl
 
   -- all entries of a map, put into an empty one, make it again
@@ -80,26 +81,26 @@ module _ (tables : ℕ → Reads Row) (p : ℕ) where
   pub length_copied : (es : List (ℕ × Page)) (sp : Space) → length es ≤ length sp.free → length (copied_pages es sp).free + length es ≡ length sp.free
   length_copied [] sp l = omega arith
   length_copied (e ∷ es) sp l =
-    let a = length_copied es (page_at_lowest e.1.rights e.1.bytes e.0 sp) (less-free e.1.rights e.1.bytes e.0 (length es) sp l) in
-    let b = one-less e.1.rights e.1.bytes e.0 sp (omega (arith, l)) in
-    omega (arith, a, b)
+      let a = length_copied es (page_at_lowest e.1.rights e.1.bytes e.0 sp) (less-free e.1.rights e.1.bytes e.0 (length es) sp l) in
+      let b = one-less e.1.rights e.1.bytes e.0 sp (omega (arith, l)) in
+      omega (arith, a, b)
 
   -- what the new table shows
   shown-one : (rights : Rights) (bytes : List ℕ) (i : ℕ) (sp : Space) → 1 ≤ length sp.free → FramesOf tables p sp
-    → shown_memory (page_at_lowest rights bytes i sp).table (page_at_lowest rights bytes i sp).frames ≡ put (shown_memory sp.table sp.frames) i (record { rights = rights; bytes = bytes })
+      → shown_memory (page_at_lowest rights bytes i sp).table (page_at_lowest rights bytes i sp).frames ≡ put (shown_memory sp.table sp.frames) i (record { rights = rights; bytes = bytes })
   shown-one rights bytes i sp l c = go sp.free refl
     where
       go : (o : List ℕ) → sp.free ≡ o → shown_memory (put sp.table i (record { 0 = first_number sp.free }, rights)) (put sp.frames (first_number sp.free) bytes) ≡ put (shown_memory sp.table sp.frames) i (record { rights = rights; bytes = bytes })
       go [] e = absurd (let k = rw e at l in omega (arith, k))
       go (f ∷ free) e =
-        let s = shown_lowest i rights sp f free e (λ j r k g. (let z = rw e at (own-not-free tables p sp c j r k) in grind (arith, nat_tests, z, g))) bytes in
-        rw e (sym s)
+          let s = shown_lowest i rights sp f free e (λ j r k g. (let z = rw e at (own-not-free tables p sp c j r k) in grind (arith, nat_tests, z, g))) bytes in
+          rw e (sym s)
 
   pub shown_copied : (es : List (ℕ × Page)) (sp : Space) → length es ≤ length sp.free → FramesOf tables p sp → shown_memory (copied_pages es sp).table (copied_pages es sp).frames ≡ put_all es (shown_memory sp.table sp.frames)
   shown_copied [] sp l c = refl
   shown_copied (e ∷ es) sp l c =
-    shown_copied es (page_at_lowest e.1.rights e.1.bytes e.0 sp) (less-free e.1.rights e.1.bytes e.0 (length es) sp l) (frames_lowest e.1.rights e.1.bytes e.0 sp (omega (arith, l)) c)
-    ∙ ap (put_all es) (shown-one e.1.rights e.1.bytes e.0 sp (omega (arith, l)) c)
+      shown_copied es (page_at_lowest e.1.rights e.1.bytes e.0 sp) (less-free e.1.rights e.1.bytes e.0 (length es) sp l) (frames_lowest e.1.rights e.1.bytes e.0 sp (omega (arith, l)) c)
+      ∙ ap (put_all es) (shown-one e.1.rights e.1.bytes e.0 sp (omega (arith, l)) c)
 
   -- a frame that isn't free keeps its bytes
   bytes-one : (rights : Rights) (bytes : List ℕ) (i f : ℕ) (sp : Space) → 1 ≤ length sp.free → copies f sp.free ≡ 0 → at (page_at_lowest rights bytes i sp).frames f ≡ at sp.frames f
@@ -119,5 +120,5 @@ module _ (tables : ℕ → Reads Row) (p : ℕ) where
   pub bytes_copied : (es : List (ℕ × Page)) (f : ℕ) (sp : Space) → length es ≤ length sp.free → copies f sp.free ≡ 0 → at (copied_pages es sp).frames f ≡ at sp.frames f
   bytes_copied [] f sp l n = refl
   bytes_copied (e ∷ es) f sp l n =
-    bytes_copied es f (page_at_lowest e.1.rights e.1.bytes e.0 sp) (less-free e.1.rights e.1.bytes e.0 (length es) sp l) (still-not e.1.rights e.1.bytes e.0 f sp n)
-    ∙ bytes-one e.1.rights e.1.bytes e.0 f sp (omega (arith, l)) n
+      bytes_copied es f (page_at_lowest e.1.rights e.1.bytes e.0 sp) (less-free e.1.rights e.1.bytes e.0 (length es) sp l) (still-not e.1.rights e.1.bytes e.0 f sp n)
+      ∙ bytes-one e.1.rights e.1.bytes e.0 f sp (omega (arith, l)) n

@@ -29,7 +29,8 @@ carries-same o ds = record { calls = λ d. refl; targets = λ d l. refl }
 pub carries-then : (a b c : Option ℕ) (ds es fs : Map Description) → Carries a b ds es → Carries b c es fs → Carries a c ds fs
 carries-then a b c ds es fs x y = record {
   calls = λ d. omega (arith, x.calls d, y.calls d);
-  targets = λ d l. y.targets d (omega (arith, l, x.calls d)) ∙ x.targets d l }
+  targets = λ d l. y.targets d (omega (arith, l, x.calls d)) ∙ x.targets d l;
+}
 
 -- the call goes on to hold what it held
 pub carries-beside : (o : Option ℕ) (ds es : Map Description) → Carries None None ds es → Carries o o ds es
@@ -38,11 +39,12 @@ carries-beside o ds es x = record { calls = λ d. omega (arith, x.calls d); targ
 -- what is said of each description that is looked up
 module _ (before after : Option ℕ) (ds es : Map Description) (g : ℕ → Option Description → Option Description) (reads : (d : ℕ) → at es d ≡ g d (at ds d)) where
   pub carries-by : ((d : ℕ) (o : Option Description) → at ds d ≡ o → (unwrap_or (g d o) no_description).calls + holds_it d before ≡ (unwrap_or o no_description).calls + holds_it d after)
-    → ((d : ℕ) (o : Option Description) → at ds d ≡ o → holds_it d before < (unwrap_or o no_description).calls → (unwrap_or (g d o) no_description).target ≡ (unwrap_or o no_description).target)
-    → Carries before after ds es
+      → ((d : ℕ) (o : Option Description) → at ds d ≡ o → holds_it d before < (unwrap_or o no_description).calls → (unwrap_or (g d o) no_description).target ≡ (unwrap_or o no_description).target)
+      → Carries before after ds es
   carries-by c t = record {
     calls = λ d. ap (λ (o : Option Description). (unwrap_or o no_description).calls + holds_it d before) (reads d) ∙ c d (at ds d) refl;
-    targets = λ d l. ap (λ (o : Option Description). (unwrap_or o no_description).target) (reads d) ∙ t d (at ds d) refl l }
+    targets = λ d l. ap (λ (o : Option Description). (unwrap_or o no_description).target) (reads d) ∙ t d (at ds d) refl l;
+  }
 
 -- descriptions that no call holds may go
 pub carries-keep : (test : ℕ → Description → Bool) → ((d : ℕ) (x : Description) → 1 ≤ x.calls → test d x ≡ true) → (ds : Map Description) → Carries None None ds (collect (λ d x. cond (test d x) (Some x) None) ds)
@@ -53,9 +55,11 @@ carries-keep test used ds = carries-by None None ds (collect (λ d x. cond (test
     counts-one d x true e n f = refl
     counts-one d x false e zero f = sym f
     counts-one d x false e (suc n) f = absurd (let u = used d x (omega (arith, f)) in grind (arith, u, e))
+
     counts : (d : ℕ) (o : Option Description) → (unwrap_or (and_then o (λ x. cond (test d x) (Some x) None)) no_description).calls ≡ (unwrap_or o no_description).calls
     counts d None = refl
     counts d (Some x) = counts-one d x (test d x) refl x.calls refl
+
     stays : (d : ℕ) (o : Option Description) → 0 < (unwrap_or o no_description).calls → (unwrap_or (and_then o (λ x. cond (test d x) (Some x) None)) no_description).target ≡ (unwrap_or o no_description).target
     stays d None l = refl
     stays d (Some x) l = ap (λ b. (unwrap_or (cond b (Some x) None) no_description).target) (used d x l)
@@ -67,9 +71,11 @@ carries-new ds n y idle fresh = carries-by None None ds (put ds n y) (λ d o. co
   where
     nothing : (d : ℕ) (o : Option Description) → at ds d ≡ o → (d == n) ≡ true → o ≡ None
     nothing d o e f = let g : d ≡ n = grind (arith, nat_tests, f) in sym e ∙ ap (at ds) g ∙ fresh
+
     counts : (d : ℕ) (o : Option Description) → at ds d ≡ o → (b : Bool) → (d == n) ≡ b → (unwrap_or (cond b (Some y) o) no_description).calls ≡ (unwrap_or o no_description).calls
     counts d o e false f = refl
     counts d o e true f = idle ∙ sym (ap (λ (p : Option Description). (unwrap_or p no_description).calls) (nothing d o e f))
+
     stays : (d : ℕ) (o : Option Description) → at ds d ≡ o → 0 < (unwrap_or o no_description).calls → (b : Bool) → (d == n) ≡ b → (unwrap_or (cond b (Some y) o) no_description).target ≡ (unwrap_or o no_description).target
     stays d o e l false f = refl
     stays d o e l true f = absurd (let z = ap (λ (p : Option Description). (unwrap_or p no_description).calls) (nothing d o e f) in omega (arith, l, z))
@@ -86,6 +92,7 @@ reads-change ds n g d = go (at ds n) refl
     same d None h = refl
     same d (Some x) (inl h) = absurd (grind (arith, h))
     same d (Some x) (inr h) = ap (λ b. Some (cond b (g x) x)) (sym h)
+
     go : (o : Option Description) → at ds n ≡ o → at (change_row ds n g o) d ≡ changed n g d (at ds d)
     go None e = by-key (d == n) refl
       where
@@ -105,19 +112,22 @@ carries-set ds n g c t = carries-by None None ds (change ds n g) (changed n g) (
     counts-one : (x : Description) (b : Bool) → (cond b (g x) x).calls ≡ x.calls
     counts-one x true = c x
     counts-one x false = refl
+
     counts : (d : ℕ) (o : Option Description) → (unwrap_or (changed n g d o) no_description).calls ≡ (unwrap_or o no_description).calls
     counts d None = refl
     counts d (Some x) = counts-one x (d == n)
+
     stays-one : (x : Description) (b : Bool) → (cond b (g x) x).target ≡ x.target
     stays-one x true = t x
     stays-one x false = refl
+
     stays : (d : ℕ) (o : Option Description) → (unwrap_or (changed n g d o) no_description).target ≡ (unwrap_or o no_description).target
     stays d None = refl
     stays d (Some x) = stays-one x (d == n)
 
 -- one call more holds it, or one less
 module _ (before after : Option ℕ) (ds : Map Description) (n : ℕ) (x : Description) (there : at ds n ≡ Some x) (g : Description → Description) (other : (d : ℕ) → (d == n) ≡ false → holds_it d before ≡ holds_it d after)
-  (own : (g x).calls + holds_it n before ≡ x.calls + holds_it n after) (t : (y : Description) → (g y).target ≡ y.target) where
+    (own : (g x).calls + holds_it n before ≡ x.calls + holds_it n after) (t : (y : Description) → (g y).target ≡ y.target) where
   here-it-is : (d : ℕ) (o : Option Description) → at ds d ≡ o → (d == n) ≡ true → o ≡ Some x
   here-it-is d o e f = let z : d ≡ n = grind (arith, nat_tests, f) in sym e ∙ ap (at ds) z ∙ there
 
@@ -126,10 +136,10 @@ module _ (before after : Option ℕ) (ds : Map Description) (n : ℕ) (x : Descr
   counts d None e false f = ap (λ j. 0 + j) (other d f)
   counts d (Some y) e false f = rw f (ap (λ j. y.calls + j) (other d f))
   counts d (Some y) e true f =
-    let z : d ≡ n = grind (arith, nat_tests, f) in
-    let s = here-it-is d (Some y) e f in
-    let v : y ≡ x = cc in
-    rw f (subst (λ (j : ℕ). (g y).calls + holds_it j before ≡ y.calls + holds_it j after) (sym z) (subst (λ (w : Description). (g w).calls + holds_it n before ≡ w.calls + holds_it n after) (sym v) own))
+      let z : d ≡ n = grind (arith, nat_tests, f) in
+      let s = here-it-is d (Some y) e f in
+      let v : y ≡ x = cc in
+      rw f (subst (λ (j : ℕ). (g y).calls + holds_it j before ≡ y.calls + holds_it j after) (sym z) (subst (λ (w : Description). (g w).calls + holds_it n before ≡ w.calls + holds_it n after) (sym v) own))
 
   stays : (d : ℕ) (o : Option Description) → (unwrap_or (changed n g d o) no_description).target ≡ (unwrap_or o no_description).target
   stays d None = refl

@@ -19,7 +19,6 @@ use Rattle.std.proofs.Common.{arith, refl, subst, sym}
 use Rattle.std.proofs.lemmas.Bool.Decides.{nat_tests}
 use Rattle.std.specs.Prelude.{Bool, List, None, Option, Some, [], cond, drop, false, length, min, nat_le, nat_lt, negsuc, not, pos, take, true, unwrap_or, ℕ, ℤ, ◌&&◌, ◌+ℤ◌, ◌+◌, ◌-◌, ◌==◌, ◌^◌, ◌||◌, ◌≡◌, ◌≤◌}
 
-
 -- ---- the primitives
 
 pub cond-case : {A : Type 0} (P : A → Type 0) (b : Bool) (x y : A) → P x → P y → P (cond b x y)
@@ -49,10 +48,10 @@ carries-hold files d x there = carries-one None (Some d) files.descriptions d x 
 
 pub carries-leave : (files : Files) (d : ℕ) → 1 ≤ calls_at files.descriptions d → Carries (Some d) None files.descriptions (leave d files).descriptions
 carries-leave files d l =
-  let p = present-of files.descriptions d l in
-  let o = own-holds d in
-  let files' : Files = record files { descriptions = change files.descriptions d (λ (y : Description). record y { calls = y.calls - 1 }) } in
-  carries-then (Some d) None None files.descriptions files'.descriptions (leave d files).descriptions
+    let p = present-of files.descriptions d l in
+    let o = own-holds d in
+    let files' : Files = record files { descriptions = change files.descriptions d (λ (y : Description). record y { calls = y.calls - 1 }) } in
+    carries-then (Some d) None None files.descriptions files'.descriptions (leave d files).descriptions
     (carries-one (Some d) None files.descriptions d p.0 p.1 (λ (y : Description). record y { calls = y.calls - 1 }) (λ j f. other-holds j d f) (omega (arith, o, p.2)) (λ y. refl)) (carries-settled files')
 
 pub carries-offset : (files : Files) (d offset : ℕ) → Carries None None files.descriptions (set_offset d offset files).descriptions
@@ -101,17 +100,17 @@ module _ (files : Files) where
   pub plain-openat : (process : ℕ) (dirfd : ℤ) (flags : ℕ) (text : List ℕ) → Plain (openat files process dirfd flags text)
   plain-openat process dirfd flags text =
       plain-cond (access_of flags == 3 || (O_CREAT flags && O_DIRECTORY flags)) (fails EINVAL files) (cond (nat_le most_descriptors (count (descriptors_of files process))) (fails EMFILE files) (open_place files process flags text (place_of files process dirfd text))) (record { kept = stays })
-        (plain-cond (nat_le most_descriptors (count (descriptors_of files process))) (fails EMFILE files) (open_place files process flags text (place_of files process dirfd text)) (record { kept = stays }) (at-place (place_of files process dirfd text)))
+      (plain-cond (nat_le most_descriptors (count (descriptors_of files process))) (fails EMFILE files) (open_place files process flags text (place_of files process dirfd text)) (record { kept = stays }) (at-place (place_of files process dirfd text)))
     where
       at-place : (x : Place) → Plain (open_place files process flags text x)
       at-place (NoPlace errno) = (record { kept = stays })
       at-place (Present n) = plain-cond (O_CREAT flags && O_EXCL flags) (fails EEXIST files) (cond ((node_of files n).directory && (may_write flags || O_CREAT flags)) (fails EISDIR files) (cond (not (node_of files n).directory && O_DIRECTORY flags) (fails ENOTDIR files) (open_node (cut_to_nothing (O_TRUNC flags && may_write flags) n files) process flags n))) (record { kept = stays })
-        (plain-cond ((node_of files n).directory && (may_write flags || O_CREAT flags)) (fails EISDIR files) (cond (not (node_of files n).directory && O_DIRECTORY flags) (fails ENOTDIR files) (open_node (cut_to_nothing (O_TRUNC flags && may_write flags) n files) process flags n)) (record { kept = stays })
+          (plain-cond ((node_of files n).directory && (may_write flags || O_CREAT flags)) (fails EISDIR files) (cond (not (node_of files n).directory && O_DIRECTORY flags) (fails ENOTDIR files) (open_node (cut_to_nothing (O_TRUNC flags && may_write flags) n files) process flags n)) (record { kept = stays })
           (plain-cond (not (node_of files n).directory && O_DIRECTORY flags) (fails ENOTDIR files) (open_node (cut_to_nothing (O_TRUNC flags && may_write flags) n files) process flags n) (record { kept = stays }) (open-node process flags n (O_TRUNC flags && may_write flags))))
       at-place (Absent above name) = plain-cond (not (O_CREAT flags)) (fails ENOENT files) (cond (ends_with_slash text) (fails EISDIR files) (cond (nat_le most_nodes (count files.nodes)) (fails ENOSPC files) (open_node (made above name false files) process flags files.next_node))) (record { kept = stays })
-        (plain-cond (ends_with_slash text) (fails EISDIR files) (cond (nat_le most_nodes (count files.nodes)) (fails ENOSPC files) (open_node (made above name false files) process flags files.next_node)) (record { kept = stays })
+          (plain-cond (ends_with_slash text) (fails EISDIR files) (cond (nat_le most_nodes (count files.nodes)) (fails ENOSPC files) (open_node (made above name false files) process flags files.next_node)) (record { kept = stays })
           (plain-cond (nat_le most_nodes (count files.nodes)) (fails ENOSPC files) (open_node (made above name false files) process flags files.next_node) (record { kept = stays })
-            (record { kept = carries-opened process (OfNode files.next_node) (may_read flags) (may_write flags) (O_APPEND flags) (made above name false files) })))
+          (record { kept = carries-opened process (OfNode files.next_node) (may_read flags) (may_write flags) (O_APPEND flags) (made above name false files) })))
 
   pub plain-mkdirat : (process : ℕ) (dirfd : ℤ) (text : List ℕ) → Plain (mkdirat files process dirfd text)
   plain-mkdirat process dirfd text = at-place (place_of files process dirfd text)
@@ -128,10 +127,10 @@ module _ (files : Files) where
   plain-unlink_place flags (NoPlace errno) = (record { kept = stays })
   plain-unlink_place flags (Absent above name) = (record { kept = stays })
   plain-unlink_place flags (Present n) =
-    plain-cond (flags == 0) (cond (node_of files n).directory (fails EISDIR files) (unlinked n files)) (cond (not (node_of files n).directory) (fails ENOTDIR files) (cond (holds_names files n) (fails ENOTEMPTY files) (unlinked n files)))
+      plain-cond (flags == 0) (cond (node_of files n).directory (fails EISDIR files) (unlinked n files)) (cond (not (node_of files n).directory) (fails ENOTDIR files) (cond (holds_names files n) (fails ENOTEMPTY files) (unlinked n files)))
       (plain-cond (node_of files n).directory (fails EISDIR files) (unlinked n files) (record { kept = stays }) (plain-unlinked n))
       (plain-cond (not (node_of files n).directory) (fails ENOTDIR files) (cond (holds_names files n) (fails ENOTEMPTY files) (unlinked n files)) (record { kept = stays })
-        (plain-cond (holds_names files n) (fails ENOTEMPTY files) (unlinked n files) (record { kept = stays }) (plain-unlinked n)))
+      (plain-cond (holds_names files n) (fails ENOTEMPTY files) (unlinked n files) (record { kept = stays }) (plain-unlinked n)))
 
   plain-unlink_last : (process : ℕ) (dirfd : ℤ) (flags : ℕ) (text : List ℕ) → Plain (unlink_last files process dirfd flags text)
   plain-unlink_last process dirfd flags text = go (special_last (names_of text))
@@ -150,7 +149,7 @@ module _ (files : Files) where
 
   pub plain-close : (process : ℕ) (fd : ℤ) → Plain (close files process fd)
   plain-close process fd = with-description (PlainStep files) files process fd (λ d x. done (pos 0) (closed process (Acts.magnitude fd) files)) (record { kept = stays })
-    (λ d. record { kept = carries-settled (record files { descriptors = put files.descriptors process (cut (descriptors_of files process) (Acts.magnitude fd)) }) })
+      (λ d. record { kept = carries-settled (record files { descriptors = put files.descriptors process (cut (descriptors_of files process) (Acts.magnitude fd)) }) })
 
   plain-seek : (d : ℕ) (offset : ℤ) → Plain (seek_to files d offset)
   plain-seek d (negsuc n) = (record { kept = stays })
@@ -159,11 +158,11 @@ module _ (files : Files) where
   plain-seek_from : (d : ℕ) (node : Inode) (offset whence : ℤ) → Plain (seek_from files d node offset whence)
   plain-seek_from d node offset (negsuc n) = (record { kept = stays })
   plain-seek_from d node offset (pos whence) =
-    let from = description_of files d in
-    plain-cond (whence == 0) (seek_to files d offset) (cond node.directory (fails EINVAL files) (cond (whence == 1) (seek_to files d (pos from.offset +ℤ offset)) (cond (whence == 2) (seek_to files d (pos (length node.bytes) +ℤ offset)) (fails EINVAL files)))) (plain-seek d offset)
+      let from = description_of files d in
+      plain-cond (whence == 0) (seek_to files d offset) (cond node.directory (fails EINVAL files) (cond (whence == 1) (seek_to files d (pos from.offset +ℤ offset)) (cond (whence == 2) (seek_to files d (pos (length node.bytes) +ℤ offset)) (fails EINVAL files)))) (plain-seek d offset)
       (plain-cond node.directory (fails EINVAL files) (cond (whence == 1) (seek_to files d (pos from.offset +ℤ offset)) (cond (whence == 2) (seek_to files d (pos (length node.bytes) +ℤ offset)) (fails EINVAL files))) (record { kept = stays })
-        (plain-cond (whence == 1) (seek_to files d (pos from.offset +ℤ offset)) (cond (whence == 2) (seek_to files d (pos (length node.bytes) +ℤ offset)) (fails EINVAL files)) (plain-seek d (pos from.offset +ℤ offset))
-          (plain-cond (whence == 2) (seek_to files d (pos (length node.bytes) +ℤ offset)) (fails EINVAL files) (plain-seek d (pos (length node.bytes) +ℤ offset)) (record { kept = stays }))))
+      (plain-cond (whence == 1) (seek_to files d (pos from.offset +ℤ offset)) (cond (whence == 2) (seek_to files d (pos (length node.bytes) +ℤ offset)) (fails EINVAL files)) (plain-seek d (pos from.offset +ℤ offset))
+      (plain-cond (whence == 2) (seek_to files d (pos (length node.bytes) +ℤ offset)) (fails EINVAL files) (plain-seek d (pos (length node.bytes) +ℤ offset)) (record { kept = stays }))))
 
   pub plain-lseek : (process : ℕ) (fd offset whence : ℤ) → Plain (lseek files process fd offset whence)
   plain-lseek process fd offset whence = with-description (PlainStep files) files process fd (λ d x. elim x.target [ OfNode n ↦ seek_from files d (node_of files n) offset whence | ReadEnd n ↦ fails ESPIPE files | WriteEnd n ↦ fails ESPIPE files | OfConsole n ↦ fails ESPIPE files ]) (record { kept = stays }) (λ d. go d (description_of files d).target)
@@ -183,20 +182,23 @@ module _ (files : Files) where
   pub plain-pipe2 : (process flags : ℕ) → Plain (pipe2 files process flags)
   plain-pipe2 process flags =
       plain-cond (not (flags == 0 || flags == O_CLOEXEC)) (fails EINVAL files) (cond (nat_lt most_descriptors (count (descriptors_of files process) + 2)) (fails EMFILE files) (pipe_result process files)) (record { kept = stays })
-        (plain-cond (nat_lt most_descriptors (count (descriptors_of files process) + 2)) (fails EMFILE files) (pipe_result process files) (record { kept = stays })
-          (record { kept = carries-then None None None files.descriptions (read_end_opened process files).descriptions (pipe_opened process files).descriptions
-            (carries-opened process (ReadEnd (lowest_free files.pipes)) true false false (set_pipe (lowest_free files.pipes) [] files)) (carries-opened process (WriteEnd (lowest_free files.pipes)) false true false (read_end_opened process files)) }))
+      (plain-cond (nat_lt most_descriptors (count (descriptors_of files process) + 2)) (fails EMFILE files) (pipe_result process files) (record { kept = stays })
+      (record {
+        kept = carries-then None None None files.descriptions (read_end_opened process files).descriptions (pipe_opened process files).descriptions
+            (carries-opened process (ReadEnd (lowest_free files.pipes)) true false false (set_pipe (lowest_free files.pipes) [] files)) (carries-opened process (WriteEnd (lowest_free files.pipes)) false true false (read_end_opened process files));
+      }))
 
   pub plain-getdents : (process : ℕ) (fd : ℤ) (most : ℕ) → Plain (getdents files process fd most)
   plain-getdents process fd most = with-description (PlainStep files) files process fd (λ d x. elim x.target [ OfNode n ↦ list_node files d most n | ReadEnd n ↦ fails ENOTDIR files | WriteEnd n ↦ fails ENOTDIR files | OfConsole n ↦ fails ENOTDIR files ]) (record { kept = stays }) (λ d. go d (description_of files d).target)
     where
       listed : (d : ℕ) (left : List (List ℕ)) → Plain (list_records files d most left)
       listed d left = plain-cond (nat_lt 0 (length left) && length (records_that_fit (min most 65_536) left) == 0) (fails EINVAL files)
-        (record { answer = pos (length (joined (records_that_fit (min most 65_536) left))); out = joined (records_that_fit (min most 65_536) left); files = set_offset d ((description_of files d).offset + length (records_that_fit (min most 65_536) left)) files }) (record { kept = stays })
-        (record { kept = carries-offset files d ((description_of files d).offset + length (records_that_fit (min most 65_536) left)) })
+          (record { answer = pos (length (joined (records_that_fit (min most 65_536) left))); out = joined (records_that_fit (min most 65_536) left); files = set_offset d ((description_of files d).offset + length (records_that_fit (min most 65_536) left)) files }) (record { kept = stays })
+          (record { kept = carries-offset files d ((description_of files d).offset + length (records_that_fit (min most 65_536) left)) })
+
       go : (d : ℕ) (t : Target) → Plain (elim t [ OfNode n ↦ list_node files d most n | ReadEnd n ↦ fails ENOTDIR files | WriteEnd n ↦ fails ENOTDIR files | OfConsole n ↦ fails ENOTDIR files ])
       go d (OfNode n) = plain-cond (not (node_of files n).directory) (fails ENOTDIR files) (cond (is_unlinked n (node_of files n).name) (fails ENOENT files) (list_records files d most (drop (description_of files d).offset (all_records files n)))) (record { kept = stays })
-        (plain-cond (is_unlinked n (node_of files n).name) (fails ENOENT files) (list_records files d most (drop (description_of files d).offset (all_records files n))) (record { kept = stays }) (listed d (drop (description_of files d).offset (all_records files n))))
+          (plain-cond (is_unlinked n (node_of files n).name) (fails ENOENT files) (list_records files d most (drop (description_of files d).offset (all_records files n))) (record { kept = stays }) (listed d (drop (description_of files d).offset (all_records files n))))
       go d (ReadEnd n) = (record { kept = stays })
       go d (WriteEnd n) = (record { kept = stays })
       go d (OfConsole n) = (record { kept = stays })
@@ -240,7 +242,7 @@ module _ (files : Files) where
       go : (d : ℕ) (b : Bool) → (description_of files d).readable ≡ b → FindStep files (cond (not b) (fails EBADF files) (cond (is_directory_target files (description_of files d).target) (fails EISDIR files) (Acts.found files d (description_of files d).target own count)))
       go d false e = record { kept = no_change }
       go d true e = find-cond (is_directory_target files (description_of files d).target) (fails EISDIR files) (Acts.found files d (description_of files d).target own count) (record { kept = no_change })
-        (finds d (description_of files d) (found-there files d (λ y. y.readable ≡ true) (λ z. grind (arith, z)) e) (description_of files d).target own count)
+          (finds d (description_of files d) (found-there files d (λ y. y.readable ≡ true) (λ z. grind (arith, z)) e) (description_of files d).target own count)
 
   pub find-write : (process : ℕ) (fd : ℤ) (own : Option ℤ) (count : ℤ) → FindStep files (write_act files process fd own count)
   find-write process fd own count = with-description (FindStep files) files process fd (λ d x. cond (not x.writable) (fails EBADF files) (Acts.found files d x.target own count)) (record { kept = no_change }) (λ d. go d (description_of files d).writable refl)
@@ -265,9 +267,9 @@ module _ (files : Files) where
 
   put-carries : (d : ℕ) (own : Option ℕ) (moved : ℕ) (bytes : List ℕ) (t : Target) → PlainStep files (put_bytes files d own moved bytes t)
   put-carries d own moved bytes (OfNode k) =
-    let offset = write_offset files (description_of files d) own moved in
-    let n = cut_at most_file_bytes offset (length bytes) in
-    record { kept = moved-carries (with_bytes_at k offset (take n bytes) files) refl d own (offset + n) }
+      let offset = write_offset files (description_of files d) own moved in
+      let n = cut_at most_file_bytes offset (length bytes) in
+      record { kept = moved-carries (with_bytes_at k offset (take n bytes) files) refl d own (offset + n) }
   put-carries d own moved bytes (ReadEnd k) = record { kept = no_change }
   put-carries d own moved bytes (WriteEnd k) = record { kept = no_change }
   put-carries d own moved bytes (OfConsole k) = record { kept = no_change }
@@ -278,7 +280,8 @@ module _ (files : Files) where
       go : (r : Readiness) → PlainStep files (elim r [
         | Ready ↦ put_bytes files d own moved bytes (description_of files d).target
         | NotReady ↦ done (pos 0) files
-        | FileStep ↦ fails (write_error files (description_of files d) own moved (description_of files d).target) files ])
+        | FileStep ↦ fails (write_error files (description_of files d) own moved (description_of files d).target) files
+      ])
       go Ready = put-carries d own moved bytes (description_of files d).target
       go NotReady = record { kept = no_change }
       go FileStep = record { kept = no_change }

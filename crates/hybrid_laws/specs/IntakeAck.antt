@@ -62,36 +62,37 @@ in-nothing j = grind (arith, nat_tests)
 module _ (x : Process) (heap : HeapHolds x) where
   -- what the change does lies in the range that its round closes
   pub in-closing : (m : Memory) (free : ℕ) (c : Change) → refusal_at_end x m free c ≡ None → (j : ℕ) → in_range (closing_range x c) j ≡ false
-    → (in_range (effect_of x c).dropped j ≡ false) × (in_range (effect_of x c).added j ≡ false) × (in_range (effect_of x c).protected j ≡ false)
+      → (in_range (effect_of x c).dropped j ≡ false) × (in_range (effect_of x c).added j ≡ false) × (in_range (effect_of x c).protected j ≡ false)
   in-closing m free (ChangeMap r rights) none j o = (o, o, in-nothing j)
   in-closing m free (Unmap r) none j o = (o, in-nothing j, in-nothing j)
   in-closing m free (Protect r rights) none j o = (in-nothing j, in-nothing j, o)
   in-closing m free (Brk a) none j o =
-    let l : a < x.program_break = (let t = is-none (nat_lt a x.program_break) (pos x.program_break) none in grind (arith, nat_tests, t)) in
-    let f = falls a x.program_break l in
-    let g = below-limit x.program_break x.heap_base heap.aligned heap.below in
-    (narrower (page_end a) (page_end x.program_break) (page_number (x.heap_base + most_heap)) g o, empty (page_end x.program_break) (page_end a) f, in-nothing j)
+      let l : a < x.program_break = (let t = is-none (nat_lt a x.program_break) (pos x.program_break) none in grind (arith, nat_tests, t)) in
+      let f = falls a x.program_break l in
+      let g = below-limit x.program_break x.heap_base heap.aligned heap.below in
+      (narrower (page_end a) (page_end x.program_break) (page_number (x.heap_base + most_heap)) g o, empty (page_end x.program_break) (page_end a) f, in-nothing j)
     where
       narrower : (lo mid hi : ℕ) → mid ≤ hi → in_range (range lo hi) j ≡ false → in_range (range lo mid) j ≡ false
       narrower lo mid hi l o = grind (arith, nat_tests, l, o)
+
       empty : (lo hi : ℕ) → hi ≤ lo → in_range (range lo hi) j ≡ false
       empty lo hi l = grind (arith, nat_tests, l)
 
 -- and the frames suffice for it
 pub fits_at_end : (x : Process) (sp : Space) (c : Change) → refusal_at_end x (shown_memory sp.table sp.frames) (length sp.free) c ≡ None → (effect_of x c).added.hi - (effect_of x c).added.lo ≤ length (each_in drop_page (effect_of x c).dropped sp).free
 fits_at_end x sp (ChangeMap r rights) none =
-  let e = not-none (exceeds (shown_memory sp.table sp.frames) (length sp.free) r) (refused ENOMEM) none in
-  let d = length-dropped r sp in
-  enough (length sp.free + count_present (shown_memory sp.table sp.frames) r) (pages_count r) e d
+    let e = not-none (exceeds (shown_memory sp.table sp.frames) (length sp.free) r) (refused ENOMEM) none in
+    let d = length-dropped r sp in
+    enough (length sp.free + count_present (shown_memory sp.table sp.frames) r) (pages_count r) e d
   where
     enough : (n k : ℕ) → nat_lt n k ≡ false → length (each_in drop_page r sp).free ≡ n → k ≤ length (each_in drop_page r sp).free
     enough n k e d = grind (arith, nat_tests, e, d)
 fits_at_end x sp (Unmap r) none = omega arith
 fits_at_end x sp (Protect r rights) none = omega arith
 fits_at_end x sp (Brk a) none =
-  let l : a < x.program_break = (let t = is-none (nat_lt a x.program_break) (pos x.program_break) none in grind (arith, nat_tests, t)) in
-  let f = falls a x.program_break l in
-  less (page_end a) (page_end x.program_break) f
+    let l : a < x.program_break = (let t = is-none (nat_lt a x.program_break) (pos x.program_break) none in grind (arith, nat_tests, t)) in
+    let f = falls a x.program_break l in
+    less (page_end a) (page_end x.program_break) f
   where
     less : (u v : ℕ) → u ≤ v → u - v ≤ length (each_in drop_page (range (page_end a) (page_end x.program_break)) sp).free
     less u v l = omega (arith, l)
@@ -109,6 +110,7 @@ ack-stands p h workers ring k rest first = go h.side.round refl h.side.lwk.chang
   where
     acks-are : tally acks (Ack ∷ rest) ≡ acked h.side.round
     acks-are = ap (tally acks) (sym first) ∙ k.rounded.acks_are
+
     go : (o : Option Round) → h.side.round ≡ o → (q : Option ℕ) → h.side.lwk.changing ≡ q → AckStands p h
     go None e q f = absurd (let a = rw e at acks-are in omega (arith, a))
     go (Some r) e None f = absurd (rw (e, f) at k.owned)
@@ -134,11 +136,11 @@ module _ (p : ℕ) (h : Here) (workers : ℕ) (ring : ℕ → ℕ) (k : OfProces
   ack-is : take_ack p rest h ≡ changed p t c (refusal_at_end x (memory_here h) (length h.free) c) over
   unfolding take_ack
   ack-is =
-    let a = w.changing in
-    let there = w.owns.there in
-    let does = w.owns.does in
-    ap (λ (o : Option ℕ). change_made_of p (unwrap_or o 0) (change_in (thread_of h.node (unwrap_or o 0)).does) over) a
-    ∙ ap (λ (o : Option Change). change_made_of p t o over) (ap (λ (z : Thread). change_in z.does) (thread-is h.node t w.owns.thread there) ∙ ap change_in does)
+      let a = w.changing in
+      let there = w.owns.there in
+      let does = w.owns.does in
+      ap (λ (o : Option ℕ). change_made_of p (unwrap_or o 0) (change_in (thread_of h.node (unwrap_or o 0)).does) over) a
+      ∙ ap (λ (o : Option Change). change_made_of p t o over) (ap (λ (z : Thread). change_in z.does) (thread-is h.node t w.owns.thread there) ∙ ap change_in does)
 
   one-free : (t == t) ≡ true
   one-free = grind (arith, nat_tests)
@@ -166,10 +168,10 @@ module _ (p : ℕ) (h : Here) (workers : ℕ) (ring : ℕ → ℕ) (k : OfProces
   -- another process
   idle-other : (q : ℕ) → p ≢ q → (u : ℕ) (y : Thread) → (u == t) ≡ true → at h.node.threads u ≡ Some y → y.process ≡ q → is_pinned y.does ≡ false
   idle-other q other u y e f own = absurd (other (
-    let g : u ≡ t = grind (arith, nat_tests, e) in
-    let there = w.owns.there in
-    let o = sym there ∙ ap (at h.node.threads) (sym g) ∙ f in
-    let s : w.owns.thread ≡ y = cc in sym w.owns.own ∙ ap (λ (z : Thread). z.process) s ∙ own))
+      let g : u ≡ t = grind (arith, nat_tests, e) in
+      let there = w.owns.there in
+      let o = sym there ∙ ap (at h.node.threads) (sym g) ∙ f in
+      let s : w.owns.thread ≡ y = cc in sym w.owns.own ∙ ap (λ (z : Thread). z.process) s ∙ own))
 
   others-changed : (o : Option ℤ) (q : ℕ) (side : Side) (workers : ℕ) (ring : ℕ → ℕ) → p ≢ q → OfProcess q side h.node workers ring → OfProcess q side (changed p t c o over).node workers ring
   others-changed (Some answer) q side workers ring other y = node-keeps q (λ u. u == t) side h.node (refused_node answer) workers ring (finishes-free q (λ u. u == t) h.node t answer one-free) (idle-other q other) y
@@ -188,22 +190,23 @@ module _ (p : ℕ) (h : Here) (workers : ℕ) (ring : ℕ → ℕ) (k : OfProces
   finish-is : OneSteps.after_here (Steps.VmFinish (tid t)) p (shown_here h) ≡ OneSteps.one_changed p t c (refusal_at_end x (memory_here h) (length h.free) c) (shown_here h)
   unfolding OneSteps.vm_finish
   finish-is = let there = w.owns.there in let does = w.owns.does in
-    ap (λ (o : Option Change). OneSteps.vm_finish_of p t o (shown_here h)) (ap (λ (z : Thread). change_in z.does) (thread-is h.node t w.owns.thread there) ∙ ap change_in does)
+      ap (λ (o : Option Change). OneSteps.vm_finish_of p t o (shown_here h)) (ap (λ (z : Thread). change_in z.does) (thread-is h.node t w.owns.thread there) ∙ ap change_in does)
 
   module _ (tables : ℕ → Reads Row) (frames : FramesOf tables p (space_here h)) (none : h.born ≡ None) where
     shown-changed : (o : Option ℤ) → refusal_at_end x (memory_here h) (length h.free) c ≡ o → OneSteps.one_changed p t c o (shown_here h) ≡ shown_here (changed p t c o over)
     shown-changed (Some answer) e = let a = calls-stay h.side.lwk.table in λ i. record { own = record { memory = memory_here h; calls = a i }; node = refused_node answer; free = length h.free; born = shown_born h.frames h.born }
     shown-changed None e =
-      let s = shown_effect tables p (effect_of x c) (space_here h) (fits_at_end x (space_here h) c e) frames in
-      let a = calls-stay (after_effect (effect_of x c) (space_here h)).table in
-      let b = ap (shown_born h.frames) none ∙ sym (ap (shown_born (after_effect (effect_of x c) (space_here h)).frames) none) in
-      λ i. record { own = record { memory = (s i).memory; calls = a i }; node = made_node; free = (s i).free; born = b i }
+        let s = shown_effect tables p (effect_of x c) (space_here h) (fits_at_end x (space_here h) c e) frames in
+        let a = calls-stay (after_effect (effect_of x c) (space_here h)).table in
+        let b = ap (shown_born h.frames) none ∙ sym (ap (shown_born (after_effect (effect_of x c) (space_here h)).frames) none) in
+        λ i. record { own = record { memory = (s i).memory; calls = a i }; node = made_node; free = (s i).free; born = b i }
 
     pub simulated_ack : Simulated (Events.Intake (pid p)) p h
     simulated_ack = simulated-one (Events.Intake (pid p)) p h (Steps.VmFinish (tid t)) image may_finish_change leads
       where
         image : image_here (Events.Intake (pid p)) p h ≡ Steps.VmFinish (tid t) ∷ []
         image = ap (λ (ms : List Msg). image_of_intake ms h.side) first ∙ ap (λ (o : Option ℕ). Steps.VmFinish (tid (unwrap_or o 0)) ∷ []) w.changing
+
         leads : OneSteps.after_here (Steps.VmFinish (tid t)) p (shown_here h) ≡ shown_here (intake p h.side.to_lwk h)
         leads = finish-is ∙ shown-changed (refusal_at_end x (memory_here h) (length h.free) c) refl ∙ ap shown_here (sym ack-is) ∙ ap (λ (ms : List Msg). shown_here (intake p ms h)) (sym first)
 

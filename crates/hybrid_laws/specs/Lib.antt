@@ -94,3 +94,5 @@ pub mod TrapChanges
 pub mod Copying
 pub mod NewSide
 pub mod TrapForks
+pub mod WholeCopy
+pub mod LinuxHolds

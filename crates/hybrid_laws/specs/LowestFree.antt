@@ -69,9 +69,11 @@ lowest-free ns = go (find (λ n. not (member n ns)) (count_from 0 (length ns))) 
         not-false : (b : Bool) → not b ≡ false → b ≡ true
         not-false true e = refl
         not-false false e = absurd (grind (arith, e))
+
     last : (b : Bool) → member (length ns) ns ≡ b → find (λ n. not (member n ns)) (count_from 0 (length ns)) ≡ None → b ≡ false
     last false f e = refl
     last true f e = absurd (omega (arith, filled (length ns) ns (all e), room (length ns) ns, there (length ns) ns f))
+
     go : (o : Option ℕ) → find (λ n. not (member n ns)) (count_from 0 (length ns)) ≡ o → member (unwrap_or o (length ns)) ns ≡ false
     go None e = last (member (length ns) ns) refl e
     go (Some n) e = not-true (member n ns) (passes (λ n. not (member n ns)) (count_from 0 (length ns)) n e)
@@ -82,6 +84,7 @@ free-key {V} m = go (at m (lowest_free m)) refl
   where
     in-keys : member (lowest_free m) (finmap.keys m) ≡ false
     in-keys = lowest-free (finmap.keys m)
+
     tests : (ns : List ℕ) (n : ℕ) → list_any (eq_by_cmp nat_cmp n) ns ≡ member n ns
     tests [] n = refl
     tests (x ∷ ns) n = λ i. (turned x n i) || tests ns n i
@@ -92,6 +95,7 @@ free-key {V} m = go (at m (lowest_free m)) refl
             go : (b : Bool) → (x == n) ≡ b → (n == x) ≡ b
             go true e = grind (arith, nat_tests, e)
             go false e = grind (arith, nat_tests, e)
+
     go : (o : Option V) → at m (lowest_free m) ≡ o → o ≡ None
     go None e = refl
     go (Some v) e = absurd (let a = contains_key-keys m (lowest_free m) ∙ tests (finmap.keys m) (lowest_free m) ∙ in-keys in let b = ap is_some e in grind (arith, a, b))

@@ -45,8 +45,8 @@ Grows table table' = (i : ℕ) (r : Row) → table i ≡ Some r → (x : Row) ×
 module _ (table table' mirror : Reads Row) (pins : Reads Pin) (begun cleared : ℕ) (rings : List (List Msg)) (grows : Grows table table') where
   covers-grows : (i : ℕ) (r : Row) → Covers table i r → Covers table' i r
   covers-grows i r k =
-    let x = grows i k.row k.there in
-    record { row = x.0; there = x.1; frame = x.2 ∙ k.frame; rights = λ a e. x.3 a (k.rights a e) }
+      let x = grows i k.row k.there in
+      record { row = x.0; there = x.1; frame = x.2 ∙ k.frame; rights = λ a e. x.3 a (k.rights a e) }
 
   answer-grows : (m : Msg) → AnswerCovered table cleared m → AnswerCovered table' cleared m
   answer-grows (Answer w page number (Some r)) h = λ l. covers-grows page r (h l)
@@ -63,7 +63,8 @@ module _ (table table' mirror : Reads Row) (pins : Reads Pin) (begun cleared : �
     mirror_rows = λ i r e. covers-grows i r (c.mirror_rows i r e);
     answers = EachRing-map (AnswerCovered table cleared) (AnswerCovered table' cleared) rings answer-grows c.answers;
     not_ahead = c.not_ahead;
-    pin_rows = λ w x e. covers-grows x.page (x.frame, x.rights) (c.pin_rows w x e) }
+    pin_rows = λ w x e. covers-grows x.page (x.frame, x.rights) (c.pin_rows w x e);
+  }
 
 -- rights that do not lessen others include them
 pub includes-of : (old new : Rights) → lessens old new ≡ false → Includes new old
@@ -74,9 +75,11 @@ includes-of old new e a f = go a f (three (lacks_of old new ReadAccess) (lacks_o
     three false false true k = absurd (grind (arith, k))
     three false true z k = absurd (grind (arith, k))
     three true y z k = absurd (grind (arith, k))
+
     one : (b c : Bool) → b ≡ true → (b && not c) ≡ false → c ≡ true
     one b true k l = refl
     one b false k l = absurd (grind (arith, k, l))
+
     go : (a : Access) → allows a old ≡ true → (lacks_of old new ReadAccess ≡ false) × (lacks_of old new WriteAccess ≡ false) × (lacks_of old new Exec ≡ false) → allows a new ≡ true
     go ReadAccess g k = one (allows ReadAccess old) (allows ReadAccess new) g k.0
     go WriteAccess g k = one (allows WriteAccess old) (allows WriteAccess new) g k.1
@@ -84,21 +87,23 @@ includes-of old new e a f = go a f (three (lacks_of old new ReadAccess) (lacks_o
 
 -- rights given to the pages of a range
 protects-grow : (rights : Rights) (n low j : ℕ) (sp : Space) (r x : Row) → at sp.table j ≡ Some x → x.0 ≡ r.0 → Includes x.1 r.1 → (in_range (range low (low + n)) j ≡ true → Includes rights r.1)
-  → (y : Row) × (at (each_page (protect_page rights) n low sp).table j ≡ Some y) × (y.0 ≡ r.0) × Includes y.1 r.1
+    → (y : Row) × (at (each_page (protect_page rights) n low sp).table j ≡ Some y) × (y.0 ≡ r.0) × Includes y.1 r.1
 protects-grow rights zero low j sp r x e f g h = (x, e, f, g)
 protects-grow rights (suc n) low j sp r x e f g h = go (j == low) refl (λ y a b d. protects-grow rights n (suc low) j (protect_page rights low sp) r y a b d (λ k. h (wider n low j k)))
   where
     wider : (n low j : ℕ) → in_range (range (suc low) (suc low + n)) j ≡ true → in_range (range low (low + suc n)) j ≡ true
     wider n low j k = grind (arith, nat_tests, k)
+
     here : (n low : ℕ) → in_range (range low (low + suc n)) low ≡ true
     here n low = grind (arith, nat_tests)
+
     go : (b : Bool) → (j == low) ≡ b
-      → ((y : Row) → at (protect_page rights low sp).table j ≡ Some y → y.0 ≡ r.0 → Includes y.1 r.1 → (z : Row) × (at (each_page (protect_page rights) n (suc low) (protect_page rights low sp)).table j ≡ Some z) × (z.0 ≡ r.0) × Includes z.1 r.1)
-      → (z : Row) × (at (each_page (protect_page rights) n (suc low) (protect_page rights low sp)).table j ≡ Some z) × (z.0 ≡ r.0) × Includes z.1 r.1
+        → ((y : Row) → at (protect_page rights low sp).table j ≡ Some y → y.0 ≡ r.0 → Includes y.1 r.1 → (z : Row) × (at (each_page (protect_page rights) n (suc low) (protect_page rights low sp)).table j ≡ Some z) × (z.0 ≡ r.0) × Includes z.1 r.1)
+        → (z : Row) × (at (each_page (protect_page rights) n (suc low) (protect_page rights low sp)).table j ≡ Some z) × (z.0 ≡ r.0) × Includes z.1 r.1
     go false k i = i x (protect_other rights low j sp k ∙ e) f g
     go true k i =
-      let s : j ≡ low = grind (arith, nat_tests, k) in
-      i (x.0, rights) (subst (λ (v : ℕ). at (protect_page rights low sp).table v ≡ Some (x.0, rights)) (sym s) (protect_own rights low sp x (ap (at sp.table) (sym s) ∙ e))) f (h (subst (λ (v : ℕ). in_range (range low (low + suc n)) v ≡ true) (sym s) (here n low)))
+        let s : j ≡ low = grind (arith, nat_tests, k) in
+        i (x.0, rights) (subst (λ (v : ℕ). at (protect_page rights low sp).table v ≡ Some (x.0, rights)) (sym s) (protect_own rights low sp x (ap (at sp.table) (sym s) ∙ e))) f (h (subst (λ (v : ℕ). in_range (range low (low + suc n)) v ≡ true) (sym s) (here n low)))
 
 -- a change that is made at once
 module _ (x : Process) (c : Change) (sp : Space) (says : NowSays x (shown_memory sp.table sp.frames) (length sp.free) c) where
@@ -118,9 +123,9 @@ module _ (x : Process) (c : Change) (sp : Space) (says : NowSays x (shown_memory
   pub effect-grows : Grows (at sp.table) (at (after_effect e sp).table)
   effect-grows j r f =
       protects-grow e.rights (pages_count e.protected) e.protected.lo j (each_in (add_page e.rights) e.added (each_in drop_page e.dropped sp)) r r
-        (outside_range (add_page e.rights) (add_other e.rights) e.added j (each_in drop_page e.dropped sp) (not-in e.added says.added j r f)
-          ∙ outside_range drop_page drop_other e.dropped j sp (not-in e.dropped says.dropped j r f) ∙ f)
-        refl (λ a k. k) (λ i. includes-of r.1 e.rights (says.rights j (shown_row sp.frames r) (within e.protected.lo e.protected.hi i) (shown-at j r f)))
+      (outside_range (add_page e.rights) (add_other e.rights) e.added j (each_in drop_page e.dropped sp) (not-in e.added says.added j r f)
+      ∙ outside_range drop_page drop_other e.dropped j sp (not-in e.dropped says.dropped j r f) ∙ f)
+      refl (λ a k. k) (λ i. includes-of r.1 e.rights (says.rights j (shown_row sp.frames r) (within e.protected.lo e.protected.hi i) (shown-at j r f)))
     where
       within : (lo hi : ℕ) → in_range (range lo (lo + (hi - lo))) j ≡ true → in_range (range lo hi) j ≡ true
       within lo hi i = grind (arith, nat_tests, i)
@@ -129,7 +134,7 @@ module _ (x : Process) (c : Change) (sp : Space) (says : NowSays x (shown_memory
   now-fits = let d = length-dropped e.dropped sp in let l = says.enough in omega (arith, d, l)
 
 module _ (p t : ℕ) (h : Here) (x : Traps h.node t) (mine : x.thread.process ≡ p) (new : Node) (c : Change) (past : new ≡ (past_ecall t (view_here h)).node) (number : ℕ) (arguments : List ℕ)
-  (decided : decide (process_of new (thread_of new t).process) (memory_here h) (length h.free) number arguments ≡ Now c) where
+    (decided : decide (process_of new (thread_of new t).process) (memory_here h) (length h.free) number arguments ≡ Now c) where
   abbrev one_free : ℕ → Bool
   one_free u = u == t
 
@@ -138,18 +143,18 @@ module _ (p t : ℕ) (h : Here) (x : Traps h.node t) (mine : x.thread.process �
 
   new-process : (thread_of new t).process ≡ p
   new-process =
-    ap (λ (m : Node). (thread_of m t).process) past
-    ∙ ap (λ (o : Option Thread). (unwrap_or o no_thread).process) (thread-changed h.node t (λ (y : Thread). record y { regs = set_pc (y.regs.pc + 4) y.regs }) x.thread x.there) ∙ mine
+      ap (λ (m : Node). (thread_of m t).process) past
+      ∙ ap (λ (o : Option Thread). (unwrap_or o no_thread).process) (thread-changed h.node t (λ (y : Thread). record y { regs = set_pc (y.regs.pc + 4) y.regs }) x.thread x.there) ∙ mine
 
   says : NowSays changer (memory_here h) (length h.free) c
   says = subst (λ (d : Decision). DecisionSays changer (memory_here h) (length h.free) d) (ap (λ (q : ℕ). decide (process_of new q) (memory_here h) (length h.free) number arguments) (sym new-process) ∙ decided)
-    (decide-says changer (memory_here h) (length h.free) number arguments)
+      (decide-says changer (memory_here h) (length h.free) number arguments)
 
   keeps : (q : ℕ) → Keeps q one_free h.node (trapped p t (Changes new c) h).node
   keeps q =
-    let e : (t == t) ≡ true = grind (arith, nat_tests) in
-    let b = (effect_of changer c).program_break in
-    then q one_free (subst (Keeps q one_free h.node) (sym past) (past_ecall-keeps q one_free h.node t)) (then q one_free (set_break-keeps q one_free new p b) (finishes-free q one_free (set_break p b new) t (answer_of_change c) e))
+      let e : (t == t) ≡ true = grind (arith, nat_tests) in
+      let b = (effect_of changer c).program_break in
+      then q one_free (subst (Keeps q one_free h.node) (sym past) (past_ecall-keeps q one_free h.node t)) (then q one_free (set_break-keeps q one_free new p b) (finishes-free q one_free (set_break p b new) t (answer_of_change c) e))
 
   free-one : is_pinned x.thread.does ≡ false
   free-one = let s = x.stopped in rw s refl
@@ -159,15 +164,25 @@ module _ (p t : ℕ) (h : Here) (x : Traps h.node t) (mine : x.thread.process �
 
   pub keeps_changes : (workers : ℕ) (ring : ℕ → ℕ) → OfProcess p h.side h.node workers ring → OfProcess p (trapped p t (Changes new c) h).side (trapped p t (Changes new c) h).node workers ring
   keeps_changes workers ring k =
-    let y = others_changes p h.side workers ring k in
-    record {
-      covered = covered-grows (at h.side.lwk.table) (at (after_effect (effect_of changer c) (space_here h)).table) (at h.side.linux.mirror) (at h.side.linux.pins) h.side.lwk.begun h.side.linux.cleared h.side.to_linux
-        (effect-grows changer c (space_here h) says) y.covered;
-      rounded = y.rounded; owned = y.owned; served = y.served; answered = y.answered; calls = y.calls; asked = y.asked; interrupts = y.interrupts; directions = y.directions; messages = y.messages; marked = y.marked }
+      let y = others_changes p h.side workers ring k in
+      record {
+        covered = covered-grows (at h.side.lwk.table) (at (after_effect (effect_of changer c) (space_here h)).table) (at h.side.linux.mirror) (at h.side.linux.pins) h.side.lwk.begun h.side.linux.cleared h.side.to_linux
+            (effect-grows changer c (space_here h) says) y.covered;
+        rounded = y.rounded;
+        owned = y.owned;
+        served = y.served;
+        answered = y.answered;
+        calls = y.calls;
+        asked = y.asked;
+        interrupts = y.interrupts;
+        directions = y.directions;
+        messages = y.messages;
+        marked = y.marked;
+      }
 
   -- the memory that is shown
   pub shown_changes : (tables : ℕ → Reads Row) → FramesOf tables p (space_here h) → h.born ≡ None → OneSteps.one_trapped p t (Changes new c) (shown_here h) ≡ shown_here (trapped p t (Changes new c) h)
   shown_changes tables frames none =
-    let s = shown_effect tables p (effect_of changer c) (space_here h) (now-fits changer c (space_here h) says) frames in
-    let b = ap (shown_born h.frames) none ∙ sym (ap (shown_born (after_effect (effect_of changer c) (space_here h)).frames) none) in
-    λ i. record { own = record { memory = (s i).memory; calls = each (shown_call h.side) h.side.lwk.callers }; node = (trapped p t (Changes new c) h).node; free = (s i).free; born = b i }
+      let s = shown_effect tables p (effect_of changer c) (space_here h) (now-fits changer c (space_here h) says) frames in
+      let b = ap (shown_born h.frames) none ∙ sym (ap (shown_born (after_effect (effect_of changer c) (space_here h)).frames) none) in
+      λ i. record { own = record { memory = (s i).memory; calls = each (shown_call h.side) h.side.lwk.callers }; node = (trapped p t (Changes new c) h).node; free = (s i).free; born = b i }

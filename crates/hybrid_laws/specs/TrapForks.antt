@@ -38,7 +38,8 @@ pub frames-fewer : (tables tables' : ℕ → Reads Row) (free : List ℕ) → ((
 frames-fewer tables tables' free f c = record {
   not_free = λ q i r e. c.not_free q i r (f q i r e);
   apart = λ q i r q' i' r' e e' g. c.apart q i r q' i' r' (f q i r e) (f q' i' r' e') g;
-  rising = c.rising }
+  rising = c.rising;
+}
 
 -- the frames of other rows keep their bytes where a memory is written back
 pub written-other : (table : Map Row) (m : Memory) (frames : Map (List ℕ)) (f : ℕ) → ((j : ℕ) (r : Row) → at table j ≡ Some r → (f == r.0.0) ≡ false) → at (written_back table m frames) f ≡ at frames f
@@ -48,7 +49,7 @@ written-other table m frames f h = other-frames (entries table) m frames f (Each
 module _ (p t : ℕ) (h : Here) (v : View) (child : ℕ) (stores : List Store) (says : ForkSays t (length h.free) (view_here h) v child) where
   -- other processes
   pub others_forks : (q : ℕ) (free : ℕ → Bool) (side : Side) (workers : ℕ) (ring : ℕ → ℕ) → (q ≢ child → Keeps q free h.node v.node) → ((u : ℕ) (y : Thread) → free u ≡ true → at h.node.threads u ≡ Some y → y.process ≡ q → is_pinned y.does ≡ false)
-    → q ≢ child → OfProcess q side h.node workers ring → OfProcess q side (trapped p t (Forks v child stores) h).node workers ring
+      → q ≢ child → OfProcess q side h.node workers ring → OfProcess q side (trapped p t (Forks v child stores) h).node workers ring
   others_forks q free side workers ring keeps idle other k = node-keeps q free side h.node v.node workers ring (keeps other) idle k
 
   -- the new one
@@ -57,28 +58,33 @@ module _ (p t : ℕ) (h : Here) (v : View) (child : ℕ) (stores : List Store) (
     where
       all : ℕ → Bool
       all u = true
+
       behind : Node
       behind = (past_ecall t (view_here h)).node
+
       made : Node
       made = with_child t child says.flags says.stack says.tls says.child_tid behind
+
       new-there : at behind.threads child ≡ None
       new-there =
-        let n = says.number in
-        ap (at behind.threads) n ∙ at-change h.node.threads t (λ (y : Thread). record y { regs = set_pc (y.regs.pc + 4) y.regs }) h.node.next_number ∙ row (h.node.next_number == t) refl
+          let n = says.number in
+          ap (at behind.threads) n ∙ at-change h.node.threads t (λ (y : Thread). record y { regs = set_pc (y.regs.pc + 4) y.regs }) h.node.next_number ∙ row (h.node.next_number == t) refl
         where
           row : (b : Bool) → (h.node.next_number == t) ≡ b → cond b (option_map (λ (y : Thread). record y { regs = set_pc (y.regs.pc + 4) y.regs }) (at h.node.threads t)) (at h.node.threads h.node.next_number) ≡ None
           row true f = let g : h.node.next_number ≡ t = grind (arith, nat_tests, f) in let z : at h.node.threads t ≡ None = ap (at h.node.threads) (sym g) ∙ fresh in rw z refl
           row false f = fresh
+
       rows : (u : ℕ) → ThreadKeeps child true (at h.node.threads u) (at v.node.threads u)
       rows u = thread-then child true (at h.node.threads u) (at behind.threads u) (at v.node.threads u) ((past_ecall-keeps child all h.node t).threads u)
-        (thread-then child true (at behind.threads u) (at made.threads u) (at v.node.threads u)
+          (thread-then child true (at behind.threads u) (at made.threads u) (at v.node.threads u)
           (put-new child all behind.threads child (child_thread (thread_of behind t) child says.flags says.stack says.tls says.child_tid) new-there refl u)
           (subst (λ (m : Node). ThreadKeeps child true (at made.threads u) (at m.threads u)) (sym says.node) ((answered-free child all made t (pos child) refl).threads u)))
+
       go : (u : ℕ) (y : Thread) → at v.node.threads u ≡ Some y → y.process ≡ child → (b : Bool) → is_called y.does ≡ b → b ≡ false
       go u y e own false f = refl
       go u y e own true f = absurd (
-        let x = (rows u).called y e own f in
-        let c = sym x.3 ∙ k.calls.called u x.0 x.1 x.2 ∙ ap is_some (at-none u) in grind (arith, c))
+          let x = (rows u).called y e own f in
+          let c = sym x.3 ∙ k.calls.called u x.0 x.1 x.2 ∙ ap is_some (at-none u) in grind (arith, c))
 
   -- ---- the step
   module _ (tables : ℕ → Reads Row) (frames : FramesOf tables p (space_here h)) (other : p ≢ child) (none : h.born ≡ None) where
@@ -118,11 +124,11 @@ module _ (p t : ℕ) (h : Here) (v : View) (child : ℕ) (stores : List Store) (
 
     enough : length pages ≤ length h.free
     enough =
-      let e = says.enough in
-      let a = count-pages in
-      let b = count-each (shown_row h.frames) table in
-      let l = not-less (length h.free) (count (memory_here h)) e in
-      omega (arith, a, b, l)
+        let e = says.enough in
+        let a = count-pages in
+        let b = count-each (shown_row h.frames) table in
+        let l = not-less (length h.free) (count (memory_here h)) e in
+        omega (arith, a, b, l)
       where
         not-less : (n k : ℕ) → nat_lt n k ≡ false → k ≤ n
         not-less n k e = grind (arith, nat_tests, e)
@@ -142,43 +148,47 @@ module _ (p t : ℕ) (h : Here) (v : View) (child : ℕ) (stores : List Store) (
     -- the caller's rows show what they showed
     caller-row : (j : ℕ) (r : Row) → at table j ≡ Some r → at frames3 r.0.0 ≡ at frames1 r.0.0
     caller-row j r e =
-      written-other copied.table (stored_all stores (shown_memory copied.table copied.frames)) copied.frames r.0.0 (λ i x f. differ i x f (r.0.0 == x.0.0) refl)
-      ∙ bytes_copied with_p child pages r.0.0 begins enough (own-not-free tables p (space_here h) frames j r e)
+        written-other copied.table (stored_all stores (shown_memory copied.table copied.frames)) copied.frames r.0.0 (λ i x f. differ i x f (r.0.0 == x.0.0) refl)
+        ∙ bytes_copied with_p child pages r.0.0 begins enough (own-not-free tables p (space_here h) frames j r e)
       where
         at-p : with_table with_p child (at copied.table) p j ≡ Some r
         at-p =
-          let a : (p == child) ≡ false = grind (arith, nat_tests, other) in
-          let b : (p == p) ≡ true = grind (arith, nat_tests) in
-          ap (λ (c : Bool). (if c then at copied.table else with_p p) j) a ∙ ap (λ (c : Bool). (if c then at table else tables p) j) b ∙ e
+            let a : (p == child) ≡ false = grind (arith, nat_tests, other) in
+            let b : (p == p) ≡ true = grind (arith, nat_tests) in
+            ap (λ (c : Bool). (if c then at copied.table else with_p p) j) a ∙ ap (λ (c : Bool). (if c then at table else tables p) j) b ∙ e
+
         at-child : (i : ℕ) (x : Row) → at copied.table i ≡ Some x → with_table with_p child (at copied.table) child i ≡ Some x
         at-child i x f = let b : (child == child) ≡ true = grind (arith, nat_tests) in ap (λ (c : Bool). (if c then at copied.table else with_p child) i) b ∙ f
+
         differ : (i : ℕ) (x : Row) → at copied.table i ≡ Some x → (b : Bool) → (r.0.0 == x.0.0) ≡ b → b ≡ false
         differ i x f false g = refl
         differ i x f true g =
-          let s : r.0.0 ≡ x.0.0 = grind (arith, nat_tests, g) in
-          absurd (other (copied-frames.apart p j r child i x at-p (at-child i x f) (λ k. record { 0 = s k })).0)
+            let s : r.0.0 ≡ x.0.0 = grind (arith, nat_tests, g) in
+            absurd (other (copied-frames.apart p j r child i x at-p (at-child i x f) (λ k. record { 0 = s k })).0)
 
     caller-memory : shown_memory table frames3 ≡ stored
     caller-memory = each-same (shown_row frames3) (shown_row frames1) table (λ j r e. (let b = ap (λ (o : Option (List ℕ)). unwrap_or o zero_page) (caller-row j r e) in λ k. record { rights = r.1; bytes = b k })) ∙ first
 
     child-memory : shown_memory copied.table frames3 ≡ stored_all stores stored
     child-memory = shown-back copied.table copied.frames (stored_all stores (shown_memory copied.table copied.frames)) (own-apart with_p child copied copied-frames) (stored_all-rights stores (shown_memory copied.table copied.frames))
-      ∙ ap (stored_all stores) (copied-shown ∙ first)
+        ∙ ap (stored_all stores) (copied-shown ∙ first)
 
     free-left : length h.free - count (memory_here h) ≡ length copied.free
     free-left =
-      let a = length_copied with_p child pages begins enough in
-      let b = count-pages in
-      let c = count-each (shown_row h.frames) table in
-      omega (arith, a, b, c)
+        let a = length_copied with_p child pages begins enough in
+        let b = count-pages in
+        let c = count-each (shown_row h.frames) table in
+        omega (arith, a, b, c)
 
     pub shown_forks : OneSteps.one_trapped p t (Forks v child stores) (shown_here h) ≡ shown_here (trapped p t (Forks v child stores) h)
     shown_forks =
-      let a = sym caller-memory in
-      let b = sym child-memory in
-      let f = free-left in
-      let c = sym (each-none (shown_call (record (new_side h.rings) { lwk = record no_lwk { table = copied.table } })) no_rows (λ i. at-none i)) in
-      λ i. record {
-        own = record { memory = a i; calls = each (shown_call h.side) h.side.lwk.callers };
-        node = v.node; free = f i;
-        born = Some (child, record { memory = b i; calls = c i }) }
+        let a = sym caller-memory in
+        let b = sym child-memory in
+        let f = free-left in
+        let c = sym (each-none (shown_call (record (new_side h.rings) { lwk = record no_lwk { table = copied.table } })) no_rows (λ i. at-none i)) in
+        λ i. record {
+          own = record { memory = a i; calls = each (shown_call h.side) h.side.lwk.callers };
+          node = v.node;
+          free = f i;
+          born = Some (child, record { memory = b i; calls = c i });
+        }

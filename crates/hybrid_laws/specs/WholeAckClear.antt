@@ -38,8 +38,8 @@ module _ (pair : Pair) (c : Coherent pair) (q : Pid) (e : may pair (Events.AckCl
   pub coherent_ack_clear : Coherent (after pair (Events.AckClear q))
   unfolding ack_clear
   coherent_ack_clear = coherent-silent pair c p there side' pair.turns (keeps_ack_clear p h (ring_number pair) k q allowed) refl refl refl refl
-    (ap (λ (o : OneHere). o.own) (sym (simulates_ack_clear p h q).leads))
-    (turns-stay pair c p there side' (λ x u. (u, refl)))
+      (ap (λ (o : OneHere). o.own) (sym (simulates_ack_clear p h q).leads))
+      (turns-stay pair c p there side' (λ x u. (u, refl)))
 
   pub simulated_ack_clear : SimulatedPair pair (Events.AckClear q)
   unfolding ack_clear

@@ -62,7 +62,7 @@ module _ (pair : Pair) (c : Coherent pair) (q : Pid) (w : ℕ) (e : may pair (Ev
 
   pub coherent_act : Coherent (after pair (Events.Act q w))
   coherent_act = subst (λ (x : Here). Coherent (put_here pair p x)) (sym (act-is p h (ring_number pair) k q w allowed))
-    (coherent-step pair c p there w n act_may.request.call act_may.request.serving act_may.request.is side_left left.files pair.frames (status_after left) refl
+      (coherent-step pair c p there w n act_may.request.call act_may.request.serving act_may.request.is side_left left.files pair.frames (status_after left) refl
       (now p h (ring_number pair) k q w allowed) (others p h (ring_number pair) k q w allowed) carried.kept carried.goes
       (files-any p side_left h.node h.workers (ring_number pair) left.files (kept p h (ring_number pair) k q w allowed)) refl refl refl
       (λ x f u. ap (λ o. waits_or_held (state_in o)) (stated-other (state_if left.ended) n h.side.book.rows x f) ∙ u)
@@ -70,8 +70,8 @@ module _ (pair : Pair) (c : Coherent pair) (q : Pid) (w : ℕ) (e : may pair (Ev
 
   thread-own : (thread_of pair.node (thread_served h.side w)).process ≡ p
   thread-own =
-    let t = the-thread p h.side h.node h.workers (ring_number pair) k n Held act_may.request.call act_may.request.is refl in
-    ap (λ (x : ℕ). (thread_of pair.node x).process) (thread-served-is h.side w n Held act_may.request.call act_may.request.serving act_may.request.is) ∙ ap (λ (o : Option Thread). (unwrap_or o no_thread).process) t.1 ∙ t.2
+      let t = the-thread p h.side h.node h.workers (ring_number pair) k n Held act_may.request.call act_may.request.is refl in
+      ap (λ (x : ℕ). (thread_of pair.node x).process) (thread-served-is h.side w n Held act_may.request.call act_may.request.serving act_may.request.is) ∙ ap (λ (o : Option Thread). (unwrap_or o no_thread).process) t.1 ∙ t.2
 
   pub simulated_act : SimulatedPair pair (Events.Act q w)
   unfolding act_file

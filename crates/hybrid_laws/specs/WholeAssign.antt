@@ -45,12 +45,13 @@ module _ (pair : Pair) (c : Coherent pair) (q : Pid) (w : ℕ) (e : may pair (Ev
   stay : (x : ℕ) → waits_or_held (state_of h.side.book x) ≡ true → (waits_or_held (state_of side'.book x) ≡ true) × ((service_of side'.linux.services x).progress ≡ (service_of h.side.linux.services x).progress)
   unfolding assign
   stay x u =
-    let n = first_number h.side.book.waiting in
-    let d = reads-put h.side.linux.services n (record (service_of h.side.linux.services n) { worker = w }) in
-    (waits-after (at h.side.book.rows n) refl, rw d (same-progress (at h.side.linux.services) n))
+      let n = first_number h.side.book.waiting in
+      let d = reads-put h.side.linux.services n (record (service_of h.side.linux.services n) { worker = w }) in
+      (waits-after (at h.side.book.rows n) refl, rw d (same-progress (at h.side.linux.services) n))
     where
       same-progress : (services : Reads Service) (n : ℕ) → (service_at (with_at services n (Some (record (service_at services n) { worker = w }))) x).progress ≡ (service_at services x).progress
       same-progress services n = grind (arith, nat_tests)
+
       waits-after : (o : Option (ReqState × Call)) → at h.side.book.rows (first_number h.side.book.waiting) ≡ o → waits_or_held (state_in (at (stated Held o (first_number h.side.book.waiting) h.side.book.rows) x)) ≡ true
       waits-after None f = u
       waits-after (Some r) f = ap (λ o. waits_or_held (state_in o)) (at-put h.side.book.rows (first_number h.side.book.waiting) (Held, r.1) x) ∙ go (x == first_number h.side.book.waiting)

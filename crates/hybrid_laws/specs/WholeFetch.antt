@@ -66,27 +66,30 @@ module _ (pair : Pair) (c : Coherent pair) (q : Pid) (r : ℕ) (e : may pair (Ev
   stays-request : (n : Call) (ms : List Msg) → ring r h.side.to_linux ≡ Request n ∷ ms → Stays (Request n)
   unfolding fetch_request
   stays-request n ms first x u =
-    let is = first-of (RequestIs (at h.side.book.rows)) r (Request n) ms h.side.to_linux first k.asked in
-    let f = not-that h.side.book n.q.0 Posted n is refl x u in
-    (ap (λ o. waits_or_held (state_in o)) (stated-other Waiting n.q.0 h.side.book.rows x f) ∙ u,
-     ap (λ (o : Option Service). (unwrap_or o no_service).progress) (put-other h.side.linux.services n.q.0 (new_service n) x f))
+      let is = first-of (RequestIs (at h.side.book.rows)) r (Request n) ms h.side.to_linux first k.asked in
+      let f = not-that h.side.book n.q.0 Posted n is refl x u in (
+        ap (λ o. waits_or_held (state_in o)) (stated-other Waiting n.q.0 h.side.book.rows x f) ∙ u,
+        ap (λ (o : Option Service). (unwrap_or o no_service).progress) (put-other h.side.linux.services n.q.0 (new_service n) x f),
+      )
 
   stays-row : (w i n : ℕ) (row : Row) (ms : List Msg) → ring r h.side.to_linux ≡ Answer w i n (Some row) ∷ ms → Stays (Answer w i n (Some row))
   unfolding fetch_row
   stays-row w i n row ms first x u =
-    let a = found p h.side h.node h.workers (ring_number pair) k r w i n (Some row) ms first in
-    let s = a.2 in
-    let f = not-that h.side.book a.0 Faulted a.1 a.3 refl x u in
-    rw s (ap (λ o. waits_or_held (state_in o)) (stated-other Held a.0 h.side.book.rows x f) ∙ u, refl)
+      let a = found p h.side h.node h.workers (ring_number pair) k r w i n (Some row) ms first in
+      let s = a.2 in
+      let f = not-that h.side.book a.0 Faulted a.1 a.3 refl x u in
+      rw s (ap (λ o. waits_or_held (state_in o)) (stated-other Held a.0 h.side.book.rows x f) ∙ u, refl)
 
   stays-empty : (w i n : ℕ) (ms : List Msg) → ring r h.side.to_linux ≡ Answer w i n None ∷ ms → Stays (Answer w i n None)
   unfolding fetch_empty
   stays-empty w i n ms first x u =
-    let a = found p h.side h.node h.workers (ring_number pair) k r w i n None ms first in
-    let s = a.2 in
-    let f = not-that h.side.book a.0 Faulted a.1 a.3 refl x u in
-    rw s (ap (λ o. waits_or_held (state_in o)) (stated-other Ended a.0 h.side.book.rows x f) ∙ u,
-      ap (λ (o : Option Service). (unwrap_or o no_service).progress) (put-other h.side.linux.services a.0 (record (service_of h.side.linux.services a.0) { answer = fault_answer (service_of h.side.linux.services a.0).progress }) x f))
+      let a = found p h.side h.node h.workers (ring_number pair) k r w i n None ms first in
+      let s = a.2 in
+      let f = not-that h.side.book a.0 Faulted a.1 a.3 refl x u in
+      rw s (
+        ap (λ o. waits_or_held (state_in o)) (stated-other Ended a.0 h.side.book.rows x f) ∙ u,
+        ap (λ (o : Option Service). (unwrap_or o no_service).progress) (put-other h.side.linux.services a.0 (record (service_of h.side.linux.services a.0) { answer = fault_answer (service_of h.side.linux.services a.0).progress }) x f),
+      )
 
   stays-clear : (range : PageRange) → Stays (Clear range)
   unfolding fetch_clear
@@ -128,7 +131,7 @@ module _ (pair : Pair) (c : Coherent pair) (q : Pid) (r : ℕ) (e : may pair (Ev
   coherent_any : (xs : List Msg) → ring r h.side.to_linux ≡ xs → Coherent (put_here pair p (fetch_from r xs h))
   coherent_any [] f = coherent-silent pair c p there h.side pair.turns k refl refl refl refl refl (turns-stay pair c p there h.side (λ x u. (u, refl)))
   coherent_any (m ∷ ms) f =
-    coherent-silent pair c p there (fetch_from r (m ∷ ms) h).side pair.turns (keeps_any p h (ring_number pair) k q r (m ∷ ms) f) refl refl (next-same m) (length-with_ring r ms h.side.to_linux)
+      coherent-silent pair c p there (fetch_from r (m ∷ ms) h).side pair.turns (keeps_any p h (ring_number pair) k q r (m ∷ ms) f) refl refl (next-same m) (length-with_ring r ms h.side.to_linux)
       (ap (λ (o : OneHere). o.own) (shows_any p h (ring_number pair) k q r (m ∷ ms) f))
       (turns-stay pair c p there (fetch_from r (m ∷ ms) h).side (stays-first m ms f (goes p h (ring_number pair) k q r m ms f)))
 
@@ -145,4 +148,4 @@ module _ (pair : Pair) (c : Coherent pair) (q : Pid) (r : ℕ) (e : may pair (Ev
 
   pub simulated_fetch : SimulatedPair pair (Events.Fetch q r)
   simulated_fetch = simulated-pair pair p (has-side pair c.known p there) (Events.Fetch q r) refl (simulates_fetch p h (ring_number pair) k q r) tt (same-born (ring r h.side.to_linux))
-    (λ x s n f. ap (λ (m : Map (List ℕ)). shown_own m s) (same-frames (ring r h.side.to_linux)))
+      (λ x s n f. ap (λ (m : Map (List ℕ)). shown_own m s) (same-frames (ring r h.side.to_linux)))

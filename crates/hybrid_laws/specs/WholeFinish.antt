@@ -53,16 +53,18 @@ module _ (pair : Pair) (c : Coherent pair) (q : Pid) (w : ℕ) (e : may pair (Ev
   stay : (x : ℕ) → waits_or_held (state_of h.side.book x) ≡ true → (waits_or_held (state_of side'.book x) ≡ true) × ((service_of side'.linux.services x).progress ≡ (service_of h.side.linux.services x).progress)
   unfolding finish_here finish
   stay x u =
-    let s = (may-finish h q w allowed).request.serving in
-    let f = other x u in
-    rw s (ap (λ o. waits_or_held (state_in o)) (at-cut h.side.book.rows n x ∙ ap (λ b. cond b None (at h.side.book.rows x)) f) ∙ u,
-      ap (λ (o : Option Service). (unwrap_or o no_service).progress) (at-cut h.side.linux.services n x ∙ ap (λ b. cond b None (at h.side.linux.services x)) f))
+      let s = (may-finish h q w allowed).request.serving in
+      let f = other x u in
+      rw s (
+        ap (λ o. waits_or_held (state_in o)) (at-cut h.side.book.rows n x ∙ ap (λ b. cond b None (at h.side.book.rows x)) f) ∙ u,
+        ap (λ (o : Option Service). (unwrap_or o no_service).progress) (at-cut h.side.linux.services n x ∙ ap (λ b. cond b None (at h.side.linux.services x)) f),
+      )
 
   pub coherent_finish : Coherent (after pair (Events.Finish q w))
   unfolding finish_here finish
   coherent_finish = coherent-silent pair c p there side' pair.turns (keeps_finish p h (ring_number pair) k q w allowed) refl refl refl refl
-    (ap (λ (o : OneHere). o.own) (sym (simulates_finish p h (ring_number pair) k q w allowed).leads))
-    (turns-stay pair c p there side' stay)
+      (ap (λ (o : OneHere). o.own) (sym (simulates_finish p h (ring_number pair) k q w allowed).leads))
+      (turns-stay pair c p there side' stay)
 
   pub simulated_finish : SimulatedPair pair (Events.Finish q w)
   unfolding finish_here finish

@@ -48,8 +48,8 @@ module _ (pair : Pair) (c : Coherent pair) (q : Pid) (w : ℕ) (e : may pair (Ev
   pub coherent_miss : Coherent (after pair (Events.Miss q w))
   unfolding miss
   coherent_miss = coherent-silent pair c p there side' turns' (keeps_miss p h (ring_number pair) k q w allowed) refl refl refl refl
-    (ap (λ (o : OneHere). o.own) (sym (simulates_miss p h (ring_number pair) k q w allowed).leads))
-    (turns-given-up pair c p there side' pair.node.files pair.frames w n (may-miss h q w allowed).request.serving
+      (ap (λ (o : OneHere). o.own) (sym (simulates_miss p h (ring_number pair) k q w allowed).leads))
+      (turns-given-up pair c p there side' pair.node.files pair.frames w n (may-miss h q w allowed).request.serving
       (λ x f. let s = (may-miss h q w allowed).request.serving in λ u. rw s (ap (λ o. waits_or_held (state_in o)) (stated-other Faulted n h.side.book.rows x f) ∙ u))
       (λ x f. refl) (λ t e i f y. y))
 

@@ -80,7 +80,8 @@ module _ (pair : Pair) (c : Coherent pair) (p : ℕ) (there : is_there pair.node
     counted = record {
       rows_below = subst (λ (t : ℕ → Reads Row). (q i : ℕ) (r : Row) → t q i ≡ Some r → r.0.0 < pair.node.frame_count) (sym tables-same) c.counted.rows_below;
       free_below = c.counted.free_below;
-      counted = ap (λ n. length pair.free + n) (sum-stays (λ (s : Side). count s.lwk.table) (ap count table)) ∙ c.counted.counted }
+      counted = ap (λ n. length pair.free + n) (sum-stays (λ (s : Side). count s.lwk.table) (ap count table)) ∙ c.counted.counted;
+    }
 
     each-rings : (q : ℕ) (s : Side) → at pair_after.sides q ≡ Some s → length s.to_linux ≡ pair.rings
     each-rings q s e = go (q == p) (sym (at-put pair.sides p side q) ∙ e)
@@ -112,4 +113,6 @@ module _ (pair : Pair) (c : Coherent pair) (p : ℕ) (there : is_there pair.node
       heaps = c.heaps;
       numbers = record {
         paid = let s = sum-stays (λ (x : Side). x.book.next - 1) (ap (λ n. n - 1) next) in subst (λ (n : ℕ). n + (pair.node.next_number - first_free_number) + length (filter (λ (x : Thread). is_stopped x.does) (values pair.node.threads)) ≤ instructions_in_all pair.node) (sym s) c.numbers.paid;
-        limit = c.numbers.limit } }
+        limit = c.numbers.limit;
+      };
+    }

@@ -81,19 +81,19 @@ module _ (pair : Pair) (c : Coherent pair) (q : Pid) (w : ℕ) (e : may pair (Ev
 
   by-way : (b : Bool) → Coherent (put_here pair p (parked p h (ring_number pair) k q w allowed b))
   by-way true = coherent-step pair c p there w n park_may.request.call park_may.request.serving park_may.request.is (side_left true) (files_left true) pair.frames (status_left true) refl
-    (own-then p h (ring_number pair) k q w allowed true) (others-then p h (ring_number pair) k q w allowed true) (carried true) (goes true)
-    (files-any p (side_left true) h.node h.workers (ring_number pair) (files_left true) (kept p h (ring_number pair) k q w allowed true)) refl refl refl (states true) (services true)
+      (own-then p h (ring_number pair) k q w allowed true) (others-then p h (ring_number pair) k q w allowed true) (carried true) (goes true)
+      (files-any p (side_left true) h.node h.workers (ring_number pair) (files_left true) (kept p h (ring_number pair) k q w allowed true)) refl refl refl (states true) (services true)
   by-way false = coherent-step pair c p there w n park_may.request.call park_may.request.serving park_may.request.is (side_left false) (files_left false) pair.frames (status_left false) refl
-    (own-then p h (ring_number pair) k q w allowed false) (others-then p h (ring_number pair) k q w allowed false) (carried false) (goes false)
-    (files-any p (side_left false) h.node h.workers (ring_number pair) (files_left false) (kept p h (ring_number pair) k q w allowed false)) refl refl refl (states false) (services false)
+      (own-then p h (ring_number pair) k q w allowed false) (others-then p h (ring_number pair) k q w allowed false) (carried false) (goes false)
+      (files-any p (side_left false) h.node h.workers (ring_number pair) (files_left false) (kept p h (ring_number pair) k q w allowed false)) refl refl refl (states false) (services false)
 
   pub coherent_park : Coherent (after pair (Events.Park q w))
   coherent_park = subst (λ (x : Here). Coherent (put_here pair p x)) (sym (park-is p h (ring_number pair) k q w allowed)) (by-way before.interrupted)
 
   thread-own : (thread_of pair.node (thread_served h.side w)).process ≡ p
   thread-own =
-    let t = the-thread p h.side h.node h.workers (ring_number pair) k n Held park_may.request.call park_may.request.is refl in
-    ap (λ (x : ℕ). (thread_of pair.node x).process) (thread-served-is h.side w n Held park_may.request.call park_may.request.serving park_may.request.is) ∙ ap (λ (o : Option Thread). (unwrap_or o no_thread).process) t.1 ∙ t.2
+      let t = the-thread p h.side h.node h.workers (ring_number pair) k n Held park_may.request.call park_may.request.is refl in
+      ap (λ (x : ℕ). (thread_of pair.node x).process) (thread-served-is h.side w n Held park_may.request.call park_may.request.serving park_may.request.is) ∙ ap (λ (o : Option Thread). (unwrap_or o no_thread).process) t.1 ∙ t.2
 
   one-at-most : (b : Bool) → AtMostOne pair.node p (image_of_park b (thread_served h.side w))
   one-at-most true = thread-own
@@ -101,5 +101,5 @@ module _ (pair : Pair) (c : Coherent pair) (q : Pid) (w : ℕ) (e : may pair (Ev
 
   pub simulated_park : SimulatedPair pair (Events.Park q w)
   simulated_park = simulated-pair pair p (has-side pair c.known p there) (Events.Park q w) refl (simulates_park p h (ring_number pair) k q w allowed) (one-at-most (served h.side.linux w).interrupted)
-    (ap (λ (x : Here). x.born) (park-is p h (ring_number pair) k q w allowed))
-    (λ x s j f. ap (λ (y : Here). shown_own y.frames s) (park-is p h (ring_number pair) k q w allowed))
+      (ap (λ (x : Here). x.born) (park-is p h (ring_number pair) k q w allowed))
+      (λ x s j f. ap (λ (y : Here). shown_own y.frames s) (park-is p h (ring_number pair) k q w allowed))

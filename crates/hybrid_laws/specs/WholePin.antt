@@ -46,7 +46,7 @@ module _ (pair : Pair) (c : Coherent pair) (q : Pid) (w : ℕ) (e : may pair (Ev
 
   pub coherent_pin : Coherent (after pair (Events.Pin q w))
   coherent_pin = coherent-silent pair c p there side' pair.turns (keeps_pin p h (ring_number pair) k q w allowed) refl refl refl refl shows
-    (turns-stay pair c p there side' (λ x u. (u, ap (λ (m : Map Service). (service_of m x).progress) same-services)))
+      (turns-stay pair c p there side' (λ x u. (u, ap (λ (m : Map Service). (service_of m x).progress) same-services)))
 
   pub simulated_pin : SimulatedPair pair (Events.Pin q w)
   simulated_pin = simulated-pair pair p (has-side pair c.known p there) (Events.Pin q w) refl (simulates_pin p h (ring_number pair) k q w allowed) tt refl (λ x s n f. refl)

@@ -1,7 +1,6 @@
 -- Unpark in the whole state.
 use Rattle.hybrid_model.specs.declared.events.Event.TheVariants as Events
 use Rattle.file_model.specs.Files.{description_of}
-use Rattle.hybrid_laws.specs.NodePrimitives.{then}
 use Rattle.hybrid_laws.specs.Reading.{reads-stated}
 use Rattle.hybrid_laws.specs.Speaking.{the-thread}
 use Rattle.hybrid_laws.specs.Tests.{both}
@@ -72,9 +71,9 @@ module _ (pair : Pair) (c : Coherent pair) (q : Pid) (n : Req) (e : may pair (Ev
       go : (b : Bool) → cond b (Some (record { process = p; request = n.0 })) (at h.turns e) ≡ Some t → at h.turns e ≡ Some t
       go false j = j
       go true j = absurd (let y : record { process = p; request = n.0 } ≡ t = cc in
-        let a : (p == p) ≡ true = grind (arith, nat_tests) in let b : (n.0 == n.0) ≡ true = grind (arith, nat_tests) in
-        let z : is_turn_for p n.0 (Some (record { process = p; request = n.0 })) ≡ true = rw (a, b) refl in
-        let v = ap (λ (x : Turn). is_turn_for p n.0 (Some x)) y in grind (arith, z, v, f))
+          let a : (p == p) ≡ true = grind (arith, nat_tests) in let b : (n.0 == n.0) ≡ true = grind (arith, nat_tests) in
+          let z : is_turn_for p n.0 (Some (record { process = p; request = n.0 })) ≡ true = rw (a, b) refl in
+          let v = ap (λ (x : Turn). is_turn_for p n.0 (Some x)) y in grind (arith, z, v, f))
 
   with-own : (o : Option ℕ) (e : ℕ) → at (with_turn p n.0 o h.turns) e ≡ Some (record { process = p; request = n.0 }) → o ≡ Some e
   with-own None e is = absurd (no-turn e is)
@@ -86,10 +85,10 @@ module _ (pair : Pair) (c : Coherent pair) (q : Pid) (n : Req) (e : may pair (Ev
 
   turns-of : (b : Bool) → TurnsHold (pair_after pair c p there side' pair.node.files pair.frames (cond b (with_turn p n.0 end h.turns) h.turns))
   turns-of true = turns-after pair c p there side' pair.node.files pair.frames (with_turn p n.0 end h.turns) n.0 (with-was end)
-    (λ e is. (waits-now, with-own end e is))
-    (λ x f u. ap (λ o. waits_or_held (state_in o)) (stated-other Waiting n.0 h.side.book.rows x f) ∙ u) (λ x f. refl) (λ t e i f y. y)
+      (λ e is. (waits-now, with-own end e is))
+      (λ x f u. ap (λ o. waits_or_held (state_in o)) (stated-other Waiting n.0 h.side.book.rows x f) ∙ u) (λ x f. refl) (λ t e i f y. y)
   turns-of false = turns-after pair c p there side' pair.node.files pair.frames h.turns n.0 (λ e t is f. is) (λ e is. absurd (no-turn e is))
-    (λ x f u. ap (λ o. waits_or_held (state_in o)) (stated-other Waiting n.0 h.side.book.rows x f) ∙ u) (λ x f. refl) (λ t e i f y. y)
+      (λ x f u. ap (λ o. waits_or_held (state_in o)) (stated-other Waiting n.0 h.side.book.rows x f) ∙ u) (λ x f. refl) (λ t e i f y. y)
 
   held-same : (x : ℕ) → description_held (status_of side' x) ≡ description_held (status_of h.side x)
   held-same x = ap (λ o. description_held (status_in (state_in o) (call_in o) (service_of h.side.linux.services x) (has_empty (at h.side.linux.workers) x h.side.to_linux) (reply_code x h.side.to_lwk))) (rows-now x) ∙ go (x == n.0) refl
@@ -103,22 +102,25 @@ module _ (pair : Pair) (c : Coherent pair) (q : Pid) (n : Req) (e : may pair (Ev
     where
       before : status_of h.side n.0 ≡ Blocked (service_of h.side.linux.services n.0).progress
       before = let is = m.is in rw is refl
+
       now : status_of side' n.0 ≡ Active (service_of h.side.linux.services n.0).progress
       now = ap (λ o. status_in (state_in o) (call_in o) (service_of h.side.linux.services n.0) (has_empty (at h.side.linux.workers) n.0 h.side.to_linux) (reply_code n.0 h.side.to_lwk)) (rows-now n.0) ∙ (let b : (n.0 == n.0) ≡ true = grind (arith, nat_tests) in rw b refl)
+
       other : (x.request == n.0) ≡ false → status_of side' x.request ≡ status_of h.side x.request
       other g = ap (λ o. status_in (state_in o) (call_in o) (service_of h.side.linux.services x.request) (has_empty (at h.side.linux.workers) x.request h.side.to_linux) (reply_code x.request h.side.to_lwk)) (stated-other Waiting n.0 h.side.book.rows x.request g)
+
       go : (b : Bool) → (x.request == n.0) ≡ b → StatusHolds (status_of h.side x.request) → StatusHolds (status_of side' x.request)
       go false g u = subst StatusHolds (sym (other g)) u
       go true g u =
-        let y : x.request ≡ n.0 = grind (arith, nat_tests, g) in
-        subst (λ (j : ℕ). StatusHolds (status_of side' j)) (sym y) (subst StatusHolds (sym now) (subst StatusHolds before (subst (λ (j : ℕ). StatusHolds (status_of h.side j)) y u)))
+          let y : x.request ≡ n.0 = grind (arith, nat_tests, g) in
+          subst (λ (j : ℕ). StatusHolds (status_of side' j)) (sym y) (subst StatusHolds (sym now) (subst StatusHolds before (subst (λ (j : ℕ). StatusHolds (status_of h.side j)) y u)))
 
   pub coherent_unpark : Coherent (after pair (Events.Unpark q n))
   unfolding unpark_here unpark turns_after_unpark
   coherent_unpark = coherent-after pair c p there side' pair.node.files pair.frames (turns_after_unpark p h.side.linux h.node.files h.turns n.0) (keeps_unpark p h (ring_number pair) k n allowed) refl refl refl
-    (turns-of (may_take_turn p h.side.linux h.node.files h.turns n.0))
-    (held-after pair c p there side' pair.node.files pair.frames (turns_after_unpark p h.side.linux h.node.files h.turns n.0) (λ d. ap (λ j. (description_of pair.node.files d).calls + j) (sym (holders-same side' h.side refl (λ t x f. held-same x.request) d))))
-    calls-now
+      (turns-of (may_take_turn p h.side.linux h.node.files h.turns n.0))
+      (held-after pair c p there side' pair.node.files pair.frames (turns_after_unpark p h.side.linux h.node.files h.turns n.0) (λ d. ap (λ j. (description_of pair.node.files d).calls + j) (sym (holders-same side' h.side refl (λ t x f. held-same x.request) d))))
+      calls-now
 
   thread-own : (thread_of pair.node m.call.tid.0).process ≡ p
   thread-own = let t = the-thread p h.side h.node h.workers (ring_number pair) k n.0 Parked m.call m.is refl in ap (λ (o : Option Thread). (unwrap_or o no_thread).process) t.1 ∙ t.2
@@ -126,4 +128,4 @@ module _ (pair : Pair) (c : Coherent pair) (q : Pid) (n : Req) (e : may pair (Ev
   pub simulated_unpark : SimulatedPair pair (Events.Unpark q n)
   unfolding unpark_here
   simulated_unpark = simulated-pair pair p (has-side pair c.known p there) (Events.Unpark q n) refl (simulates_unpark p h (ring_number pair) k n allowed)
-    (ap (λ (o : Option (ReqState × Call)). (thread_of pair.node (call_in o).tid.0).process) m.is ∙ thread-own) refl (λ x s n f. refl)
+      (ap (λ (o : Option (ReqState × Call)). (thread_of pair.node (call_in o).tid.0).process) m.is ∙ thread-own) refl (λ x s n f. refl)

@@ -38,7 +38,7 @@ module _ (pair : Pair) (c : Coherent pair) (q : Pid) (w : ℕ) (e : may pair (Ev
   pub coherent_unpin : Coherent (after pair (Events.Unpin q w))
   unfolding unpin
   coherent_unpin = coherent-silent pair c p there side' pair.turns (keeps_unpin p h (ring_number pair) k q w) refl refl refl refl refl
-    (turns-stay pair c p there side' (λ x u. (u, refl)))
+      (turns-stay pair c p there side' (λ x u. (u, refl)))
 
   pub simulated_unpin : SimulatedPair pair (Events.Unpin q w)
   simulated_unpin = simulated-pair pair p (has-side pair c.known p there) (Events.Unpin q w) refl (simulates_unpin p h q w) tt refl (λ x s n f. refl)
