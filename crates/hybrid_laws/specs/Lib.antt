@@ -86,3 +86,4 @@ pub mod TrapChanges
 pub mod Copying
 pub mod NewSide
 pub mod TrapForks
+pub mod TrapEvent
