@@ -87,3 +87,4 @@ pub mod Copying
 pub mod NewSide
 pub mod TrapForks
 pub mod TrapEvent
+pub mod IntakeEvent
