@@ -88,3 +88,4 @@ pub mod NewSide
 pub mod TrapForks
 pub mod TrapEvent
 pub mod IntakeEvent
+pub mod CallsClosed
