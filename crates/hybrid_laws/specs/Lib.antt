@@ -89,3 +89,4 @@ pub mod TrapForks
 pub mod TrapEvent
 pub mod IntakeEvent
 pub mod CallsClosed
+pub mod Goes
