@@ -90,3 +90,5 @@ pub mod TrapEvent
 pub mod IntakeEvent
 pub mod CallsClosed
 pub mod Goes
+pub mod SoundNode
+pub mod WholeNode
