@@ -92,3 +92,5 @@ pub mod CallsClosed
 pub mod Goes
 pub mod SoundNode
 pub mod WholeNode
+pub mod WholeQuiet
+pub mod WholeDeliver
