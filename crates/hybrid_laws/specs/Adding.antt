@@ -72,26 +72,26 @@ rising-rest f [] h = tt
 rising-rest f (g ∷ free) h = h.1
 
 module _ (tables : ℕ → Reads Row) (p i : ℕ) (rights : Rights) (sp : Space) (f : ℕ) (free : List ℕ) (first : sp.free ≡ f ∷ free) (c : Frames (with_table tables p (at sp.table)) sp.free) where
-  abbrev pub new : Row
-  new = (record { 0 = f }, rights)
+  abbrev pub new_row : Row
+  new_row = (record { 0 = f }, rights)
 
   abbrev more : ℕ → Reads Row
-  more = with_table tables p (with_at (at sp.table) i (Some new))
+  more = with_table tables p (with_at (at sp.table) i (Some new_row))
 
   rising : Rising (f ∷ free)
   rising = rw first at c.rising
 
   -- a row after is the new one, or was there
-  pub was-or-new : (q j : ℕ) (r : Row) → more q j ≡ Some r → ((q ≡ p) × (j ≡ i) × (r ≡ new)) ⊎ (with_table tables p (at sp.table) q j ≡ Some r)
+  pub was-or-new : (q j : ℕ) (r : Row) → more q j ≡ Some r → ((q ≡ p) × (j ≡ i) × (r ≡ new_row)) ⊎ (with_table tables p (at sp.table) q j ≡ Some r)
   was-or-new q j r e = go (q == p) refl e
     where
-      own : (d : Bool) → (j == i) ≡ d → (if d then Some new else at sp.table j) ≡ Some r → ((j ≡ i) × (r ≡ new)) ⊎ (at sp.table j ≡ Some r)
-      own true g k = inl (grind (arith, nat_tests, g), (let s : new ≡ r = cc in sym s))
+      own : (d : Bool) → (j == i) ≡ d → (if d then Some new_row else at sp.table j) ≡ Some r → ((j ≡ i) × (r ≡ new_row)) ⊎ (at sp.table j ≡ Some r)
+      own true g k = inl (grind (arith, nat_tests, g), (let s : new_row ≡ r = cc in sym s))
       own false g k = inr k
-      as-own : q ≡ p → ((j ≡ i) × (r ≡ new)) ⊎ (at sp.table j ≡ Some r) → ((q ≡ p) × (j ≡ i) × (r ≡ new)) ⊎ (at sp.table j ≡ Some r)
+      as-own : q ≡ p → ((j ≡ i) × (r ≡ new_row)) ⊎ (at sp.table j ≡ Some r) → ((q ≡ p) × (j ≡ i) × (r ≡ new_row)) ⊎ (at sp.table j ≡ Some r)
       as-own f (inl x) = inl (f, x.0, x.1)
       as-own f (inr x) = inr x
-      go : (b : Bool) → (q == p) ≡ b → (if b then with_at (at sp.table) i (Some new) else tables q) j ≡ Some r → ((q ≡ p) × (j ≡ i) × (r ≡ new)) ⊎ ((if b then at sp.table else tables q) j ≡ Some r)
+      go : (b : Bool) → (q == p) ≡ b → (if b then with_at (at sp.table) i (Some new_row) else tables q) j ≡ Some r → ((q ≡ p) × (j ≡ i) × (r ≡ new_row)) ⊎ ((if b then at sp.table else tables q) j ≡ Some r)
       go true f k = as-own (grind (arith, nat_tests, f)) (own (j == i) refl k)
       go false f k = inr k
 

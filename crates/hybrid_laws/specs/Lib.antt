@@ -96,3 +96,11 @@ pub mod NewSide
 pub mod TrapForks
 pub mod WholeCopy
 pub mod LinuxHolds
+pub mod TrapEvent
+pub mod IntakeEvent
+pub mod CallsClosed
+pub mod Goes
+pub mod SoundNode
+pub mod WholeNode
+pub mod WholeQuiet
+pub mod WholeDeliver

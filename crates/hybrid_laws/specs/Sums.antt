@@ -119,3 +119,37 @@ module _ {V : Type 0} (f : V → ℕ) where
 
   pub total-cut : (m : Map V) (k : ℕ) → total f (cut m k) + counted_in f (at m k) ≡ total f m
   total-cut m k = let a = total-cut-by (λ (e : ℕ × V). f e.1) m k in let b = at-value k (at m k) in omega (arith, a, b)
+
+-- sums over two maps that answer alike, or one of which counts less at each key
+module _ {V : Type 0} (f : V → ℕ) where
+  le-entries : (es : List (ℕ × V)) (m : Map V) → fin.is_sorted nat_cmp es ≡ true → ((k : ℕ) (v : V) → fin.find nat_cmp k es ≡ Some v → f v ≤ counted_in f (at m k)) → sum_by (λ (e : ℕ × V). f e.1) es ≤ total f m
+  le-entries [] m s h = omega arith
+  le-entries (e ∷ es) m s h =
+      let c = total-cut f m e.0 in
+      let own = h e.0 e.1 (ap (λ b. cond b (Some e.1) (fin.find nat_cmp e.0 es)) (unsigned_tied e.0 e.0) ∙ (let z : (e.0 == e.0) ≡ true = grind (arith, nat_tests) in rw z refl)) in
+      let rest = le-entries es (cut m e.0) a.1 later in
+      let d = sum_by-cons (λ (x : ℕ × V). f x.1) e es in
+      omega (arith, c, own, rest, d)
+    where
+      a : (fin.below_all nat_cmp e.0 es ≡ true) × (fin.is_sorted nat_cmp es ≡ true)
+      a = both (fin.below_all nat_cmp e.0 es) (fin.is_sorted nat_cmp es) s
+      none-own : fin.find nat_cmp e.0 es ≡ None
+      none-own = none-below (λ (x : ℕ × V). 0) e.0 e.0 es (omega arith) a.0
+      later : (k : ℕ) (v : V) → fin.find nat_cmp k es ≡ Some v → f v ≤ counted_in f (at (cut m e.0) k)
+      later k v g = go (k == e.0) refl
+        where
+          go : (b : Bool) → (k == e.0) ≡ b → f v ≤ counted_in f (at (cut m e.0) k)
+          go true z = absurd (let w : k ≡ e.0 = grind (arith, nat_tests, z) in let n = sym none-own ∙ ap (λ (j : ℕ). fin.find nat_cmp j es) (sym w) ∙ g in grind (arith, n))
+          go false z =
+            let i = h k v (ap (λ b. cond b (Some e.1) (fin.find nat_cmp k es)) (unsigned_tied k e.0 ∙ z) ∙ g) in
+            let j = ap (counted_in f) (at-cut m e.0 k ∙ ap (λ b. cond b None (at m k)) z) in
+            omega (arith, i, j)
+
+  pub total-le : (m n : Map V) → ((k : ℕ) → counted_in f (at m k) ≤ counted_in f (at n k)) → total f m ≤ total f n
+  total-le m n h = le-entries (entries m) n (sorted-true m) (λ k v e. (let a = h k in let b = ap (counted_in f) (finmap.get-entries m k ∙ e) in omega (arith, a, b)))
+
+  pub total-same : (m n : Map V) → ((k : ℕ) → counted_in f (at m k) ≡ counted_in f (at n k)) → total f m ≡ total f n
+  total-same m n h =
+    let a = total-le m n (λ k. (let e = h k in omega (arith, e))) in
+    let b = total-le n m (λ k. (let e = h k in omega (arith, e))) in
+    omega (arith, a, b)

@@ -1,6 +1,5 @@
 -- What a trap that begins a call, changes the memory or makes a process says of it.
 use Rattle.file_model.specs.Errno.{EAGAIN, ENOMEM}
-use Rattle.hybrid_laws.specs.Adding.{new}
 use Rattle.isa_model.specs.Memory.{may_access}
 use Rattle.isa_model.specs.Registers.{reg}
 use Rattle.isa_model.specs.declared.stops.Stop.{Stop}
