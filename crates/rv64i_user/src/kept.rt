@@ -1,5 +1,5 @@
 // A memory with the place of the last code page kept.
-ghost use Rattle.std.specs.Prelude.{◌≡◌, ◌<◌, ◌^◌, true, false};
+ghost use Rattle.std.specs.Prelude.{◌≡◌, ◌<◌, ◌/◌, ◌^◌, true, false};
 ghost use Rattle.mck_word.specs.declared.Access.TheVariants.{Exec};
 ghost use Rattle.isa_model.specs.Memory.{lacks, fetched};
 
@@ -57,10 +57,11 @@ impl<P: PageMem> Kept<P> {
         mem
     }
 
-    /// Looks for the place of the code page of an address, if another is kept.
+    /// Keeps the place of the code page of an address, if it may be executed.
     #[inline(always)]
     pub fn look(&mut self, pc: u64)
-        ensures { self.new.mem ≡ self.old.mem }
+        ensures same { self.new.mem ≡ self.old.mem }
+        ensures kept { lacks (P.memory self.old.mem) Exec (pc / 4096) ≡ false → self.new.page ≡ pc / 4096 }
     {
         let page = pc / 4096;
         if page != self.page {

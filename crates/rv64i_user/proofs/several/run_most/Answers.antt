@@ -10,7 +10,7 @@ returns-then-not-step_to-clause-did g c =
     let m = g.P.PageMem.memory c.loop-k.mem.mem in
     let w = g.P.PageMem.memory c.step_to.new.mem.mem in
     let left : c.args.most - c.loop-k.k ≡ suc (c.args.most - (c.loop-k.k + 1)) = omega arith in
-    let did : outcome c.step_to.new.r w c.step_to.new.stop ≡ instr r m = c.step_to.ensures.did ∙ ap (λ x. instr r (g.P.PageMem.memory x)) c.look.ensures in
+    let did : outcome c.step_to.new.r w c.step_to.new.stop ≡ instr r m = c.step_to.ensures.did ∙ ap (λ x. instr r (g.P.PageMem.memory x)) c.look.ensures.same in
     let off : is_on c.step_to.new.stop ≡ false = sym c.if-not-step_to.ensures.went in
     sym (stops-there (c.args.most - c.loop-k.k) (c.args.most - (c.loop-k.k + 1)) r c.step_to.new.r m w c.step_to.new.stop left did off) ∙ c.loop-k.invariant.rest
 
@@ -20,7 +20,7 @@ returns-then-not-step_to-clause-count g c =
     let m = g.P.PageMem.memory c.loop-k.mem.mem in
     let w = g.P.PageMem.memory c.step_to.new.mem.mem in
     let left : c.args.most - c.loop-k.k ≡ suc (c.args.most - (c.loop-k.k + 1)) = omega arith in
-    let did : outcome c.step_to.new.r w c.step_to.new.stop ≡ instr r m = c.step_to.ensures.did ∙ ap (λ x. instr r (g.P.PageMem.memory x)) c.look.ensures in
+    let did : outcome c.step_to.new.r w c.step_to.new.stop ≡ instr r m = c.step_to.ensures.did ∙ ap (λ x. instr r (g.P.PageMem.memory x)) c.look.ensures.same in
     let off : is_on c.step_to.new.stop ≡ false = sym c.if-not-step_to.ensures.went in
     let none = counts-none (c.args.most - c.loop-k.k) (c.args.most - (c.loop-k.k + 1)) r c.step_to.new.r m w c.step_to.new.stop left did off in
     let all = c.loop-k.invariant.counted in
@@ -32,7 +32,7 @@ loop-k-preserved g c =
     let m = g.P.PageMem.memory c.loop-k.mem.mem in
     let w = g.P.PageMem.memory c.step_to.new.mem.mem in
     let left : c.args.most - c.loop-k.k ≡ suc (c.args.most - (c.loop-k.k + 1)) = omega arith in
-    let did : outcome c.step_to.new.r w c.step_to.new.stop ≡ instr r m = c.step_to.ensures.did ∙ ap (λ x. instr r (g.P.PageMem.memory x)) c.look.ensures in
+    let did : outcome c.step_to.new.r w c.step_to.new.stop ≡ instr r m = c.step_to.ensures.did ∙ ap (λ x. instr r (g.P.PageMem.memory x)) c.look.ensures.same in
     let on : is_on c.step_to.new.stop ≡ true = sym c.if-not-step_to.ensures.went in
     let rest = goes-on (c.args.most - c.loop-k.k) (c.args.most - (c.loop-k.k + 1)) r c.step_to.new.r m w c.step_to.new.stop left did on in
     let more = counts-on (c.args.most - c.loop-k.k) (c.args.most - (c.loop-k.k + 1)) r c.step_to.new.r m w c.step_to.new.stop left did on in
