@@ -1,5 +1,6 @@
 pub mod Assembly
 pub mod Labels
 pub mod Lines
+pub mod Listing
 pub mod Names
 pub mod Numbers
