@@ -3,6 +3,7 @@
 
 mod assembling;
 mod fault;
+mod images;
 mod labels;
 mod layout;
 mod lines;
@@ -13,6 +14,7 @@ mod numbers;
 
 pub use assembling::{Words, assemble};
 pub use fault::AsmError;
+pub use images::small_image;
 pub use labels::{before_last, defined_in, is_label, is_silent, words_in};
 pub use layout::Layout;
 pub use lines::said;
