@@ -27,3 +27,12 @@ with_headers code = header ++ program_header (length code + 120) ++ code
 -- the file of a small executable with these words
 unfoldable pub small_image_of : List ℕ → List ℕ
 small_image_of words = with_headers (code_of words)
+
+-- the image of such a file: one segment with the whole file
+abbrev pub image_with : List ℕ → Image
+image_with file = record {
+  entry = 0x10078;
+  phdr = 0x10040;
+  phnum = 1;
+  segments = record { addr = 0x10000; mem = length file; bytes = file; rights = record { 0 = 7 } } ∷ [];
+}

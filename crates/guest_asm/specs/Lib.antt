@@ -1,4 +1,5 @@
 pub mod Assembly
+pub mod Growing
 pub mod Images
 pub mod Labels
 pub mod Lines

@@ -3,6 +3,7 @@
 
 mod assembling;
 mod fault;
+mod growing;
 mod images;
 mod labels;
 mod layout;
@@ -14,6 +15,7 @@ mod numbers;
 
 pub use assembling::{Words, assemble};
 pub use fault::AsmError;
+pub use growing::{Images, grow_job};
 pub use images::small_image;
 pub use labels::{before_last, defined_in, is_label, is_silent, words_in};
 pub use layout::Layout;
