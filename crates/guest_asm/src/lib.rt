@@ -24,3 +24,6 @@ pub use listing_text::listing;
 pub use marks::Mark;
 pub use names::{layout_of, name_of, named, register_of};
 pub use numbers::{Number, immediate_of, literal_of, natural_of};
+
+#[cfg(test)]
+mod tests;
