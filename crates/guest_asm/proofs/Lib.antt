@@ -1,4 +1,5 @@
 pub mod Codes
+pub mod Counting
 pub mod Cuts
 pub mod LabelMaps
 pub mod Texts
