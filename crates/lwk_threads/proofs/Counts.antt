@@ -1,9 +1,9 @@
 -- How many rows of a map pass a test, when a row comes, goes or changes.
 use Rattle.key_rows.specs.Laws.{get-removed, insert-removed}
 use Rattle.lwk_threads.specs.Threads.{one_if}
-use Rattle.mck_word.specs.MapLaws.{at-put, at-none, same_rows}
+use Rattle.mck_word.specs.MapLaws.{at-put, same_rows}
 use Rattle.mck_word.specs.Maps.{Map, at, cut, no_rows, put, values, entries}
-use Rattle.std.proofs.Common.{◌≡◌, ◌+◌, ℕ, Bool, true, false, cond, eqb, List, [], ◌∷◌, length, Option, Some, None, refl, sym, ap, ◌∙◌, inl, inr, arith}
+use Rattle.std.proofs.Common.{◌≡◌, ◌+◌, ℕ, Bool, true, false, cond, List, [], ◌∷◌, length, Some, None, refl, sym, ap, ◌∙◌, inl, inr, arith}
 use Rattle.std.proofs.lemmas.Bool.{cases_eq, eq-eqb, ne_eqb, true≢false}
 use Rattle.std.specs.Cmp.{nat_cmp_total}
 use Rattle.std.specs.FinMap as map

@@ -1,9 +1,8 @@
 -- The lowest number that isn't in a list.
-use Rattle.mck_word.specs.Lists.{count_from, find_or, lowest_not_in, member, without}
+use Rattle.mck_word.specs.Lists.{count_from, lowest_not_in, member, without}
 use Rattle.std.proofs.Common.{◌≡◌, ◌≢◌, ◌+◌, ◌-◌, ◌<◌, ◌≤◌, ℕ, zero, suc, Bool, true, false, cond, eqb, not, List, [], ◌∷◌, length, Option, Some, None, refl, sym, ap, subst, ◌∙◌, inl, inr, arith}
-use Rattle.std.proofs.lemmas.Bool.{cases_eq, cases_lt, eq-eqb, ne_eqb, or_parts, true≢false}
-use Rattle.std.specs.List.{list_any}
-use Rattle.std.specs.Prelude.{filter, find, unwrap_or, ◌||◌}
+use Rattle.std.proofs.lemmas.Bool.{cases_eq, cases_lt, eq-eqb, ne_eqb, true≢false}
+use Rattle.std.specs.Prelude.{find, unwrap_or, ◌||◌}
 
 -- a list without one of its members is shorter, and has the others
 length-without_le : (m : ℕ) (ns : List ℕ) → length (without (λ n. eqb n m) ns) ≤ length ns

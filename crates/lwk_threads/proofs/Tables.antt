@@ -5,13 +5,13 @@ use Rattle.lwk_threads.proofs.Lowest.{lowest-missing}
 use Rattle.lwk_threads.specs.Threads.{IsTable, Threads, is_of, joined, live_threads, lowest_free_place, no_peers, no_threads, one_if, parted, kept_if, peers_in, stands_at, threads_of, with_peer, with_thread, without_peer, without_thread}
 use Rattle.lwk_threads.specs.declared.Thread.{Thread}
 use Rattle.lwk_threads.specs.declared.member_rows.Peers.{Peers}
-use Rattle.mck_word.specs.Lists.{count_from, find_or, lowest_not_in, member}
+use Rattle.mck_word.specs.Lists.{count_from, find_or, member}
 use Rattle.mck_word.specs.MapLaws.{at-cut, at-none, at-put}
-use Rattle.mck_word.specs.Maps.{Map, at, cut, no_rows, put, values}
-use Rattle.std.proofs.Common.{◌≡◌, ◌≢◌, ◌+◌, ◌-◌, ◌<◌, ◌≤◌, ℕ, zero, suc, Bool, true, false, cond, eqb, not, List, [], ◌∷◌, length, Option, Some, None, refl, sym, ap, subst, ◌∙◌, inl, inr, arith}
+use Rattle.mck_word.specs.Maps.{Map, at, no_rows, put, values}
+use Rattle.std.proofs.Common.{◌≡◌, ◌≢◌, ◌+◌, ◌<◌, ◌≤◌, ℕ, zero, suc, Bool, true, false, cond, eqb, not, List, [], ◌∷◌, length, Some, None, refl, sym, ap, subst, ◌∙◌, inl, inr, arith}
 use Rattle.std.proofs.lemmas.List.{length-map}
 use Rattle.std.proofs.lemmas.Bool.{cases_eq, eq-eqb, ne_eqb, true≢false}
-use Rattle.std.specs.Prelude.{IsSome, filter, is_some, map as map_list, max, replicate, slice_index_or, slice_set, ◌&&◌, ◌||◌}
+use Rattle.std.specs.Prelude.{filter, is_some, map as map_list, replicate, slice_index_or, slice_set, ◌&&◌, ◌||◌}
 
 -- no place is taken among those of no thread
 none_taken : (n place : ℕ) → slice_index_or (replicate n false) place false ≡ false

@@ -1,4 +1,4 @@
-use Rattle.std.proofs.Common.{None, ◌<◌, ◌≡◌, ap, subst, sym, ◌∙◌}
+use Rattle.std.proofs.Common.{◌<◌, ◌≡◌, ap, subst, sym, ◌∙◌}
 use Rattle.kernel_model.specs.Nodes.{most_threads}
 use Rattle.mck_word.specs.Maps.{at, values}
 use Rattle.lwk_threads.proofs.Counts.{passing}

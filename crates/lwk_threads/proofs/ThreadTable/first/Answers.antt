@@ -1,5 +1,4 @@
 use Rattle.std.proofs.Common.{arith}
-use Rattle.std.specs.Prelude.{filter}
 use Rattle.lwk_threads.proofs.Tables.{stands-le}
 use Rattle.mck_word.specs.Maps.{values}
 use Rattle.lwk_threads.proofs.ThreadTable.first.Goals as goal

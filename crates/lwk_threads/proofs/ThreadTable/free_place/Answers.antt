@@ -1,4 +1,4 @@
-use Rattle.std.proofs.Common.{◌≡◌, ap, sym, ◌∙◌}
+use Rattle.std.proofs.Common.{ap, sym, ◌∙◌}
 use Rattle.mck_word.specs.Maps.{values}
 use Rattle.lwk_threads.proofs.Counts.{passing}
 use Rattle.lwk_threads.proofs.Tables.{lowest-free, lowest-taken}

@@ -1,4 +1,4 @@
-use Rattle.std.proofs.Common.{Some, ◌-◌, ◌≡◌, ap, arith, false, not, sym, ◌∙◌}
+use Rattle.std.proofs.Common.{◌-◌, ◌≡◌, ap, arith, false, not, sym, ◌∙◌}
 use Rattle.mck_word.specs.Lists.{count_from}
 use Rattle.std.specs.Prelude.{find, slice_index_or, unwrap_or}
 use Rattle.lwk_threads.proofs.Lowest.{find-hit, find-step}

@@ -1,4 +1,4 @@
-use Rattle.std.proofs.Common.{◌-◌, ◌≡◌, ◌≤◌, false, not}
+use Rattle.std.proofs.Common.{◌-◌, ◌≡◌, false, not}
 use Rattle.mck_word.specs.Lists.{count_from}
 use Rattle.std.specs.Prelude.{find, slice_index_or}
 use Rattle.lwk_threads.proofs.member_rows.lowest_place.Given as goal
