@@ -1,5 +1,5 @@
 -- The entries of a directory, one after another.
-use Rattle.file_calls.specs.Placed.{Gives, IsFilled, fitting, placed}
+use Rattle.file_calls.specs.Placed.{Gives, IsFilled, fitting, len_said, placed}
 use Rattle.file_calls.specs.declared.entries.Filled.{Filled}
 use Rattle.file_model.specs.Acts.{all_records, entry_record, entry_records, joined, list_node, list_records, records_that_fit}
 use Rattle.file_model.specs.Errno.{EINVAL, ENOENT, ENOTDIR}
@@ -108,23 +108,23 @@ both false b e = cc
 pub list-stuck : (files : Files) (d most node len : ℕ) (f : Filled) (before after : List ℕ) (value : ℤ) → (node_of files node).directory ≡ true → is_unlinked node (node_of files node).name ≡ false → len ≡ min most 65_536
     → IsFilled (fitting files node (description_of files d).offset len) f before after
     → (nat_lt 0 (length (drop (description_of files d).offset (all_records files node))) && f.entries == 0) ≡ true → value ≡ refused EINVAL
-    → Gives (list_node files d most node) value before after files
+    → Gives (list_node files d most node) value (len_said value) before after files
 list-stuck files d most node len f before after value dir name is h stuck v =
     let fit = fitting files node (description_of files d).offset len in
     let test = nat_lt 0 (length (drop (description_of files d).offset (all_records files node))) in
     let none : length fit ≡ 0 = sym h.entries ∙ grind (arith, nat_tests, both test (f.entries == 0) stuck) in
-    subst (λ (r : FileResult). Gives r value before after files)
+    subst (λ (r : FileResult). Gives r value (len_said value) before after files)
       (sym (list-is files d most node len dir name is ∙ ap (λ k. cond (test && k == 0) (fails EINVAL files) (listed files d fit)) (sym h.entries) ∙ ap (λ b. cond b (fails EINVAL files) (listed files d fit)) stuck))
-      (record { answers = v; fills = h.fills ∙ ap (λ (xs : List ℕ). placed xs before) (no_records fit none); leaves = refl })
+      (record { answers = v; gives = sym (ap len_said v); fills = h.fills ∙ ap (λ (xs : List ℕ). placed xs before) (no_records fit none); leaves = refl })
 
 pub list-filled : (files left : Files) (d most node len : ℕ) (f : Filled) (before after : List ℕ) → (node_of files node).directory ≡ true → is_unlinked node (node_of files node).name ≡ false → len ≡ min most 65_536
     → IsFilled (fitting files node (description_of files d).offset len) f before after
     → (nat_lt 0 (length (drop (description_of files d).offset (all_records files node))) && f.entries == 0) ≡ false
     → left ≡ set_offset d ((description_of files d).offset + f.entries) files
-    → Gives (list_node files d most node) (pos f.bytes) before after left
+    → Gives (list_node files d most node) (pos f.bytes) f.bytes before after left
 list-filled files left d most node len f before after dir name is h stuck l =
     let fit = fitting files node (description_of files d).offset len in
     let test = nat_lt 0 (length (drop (description_of files d).offset (all_records files node))) in
-    subst (λ (r : FileResult). Gives r (pos f.bytes) before after left)
+    subst (λ (r : FileResult). Gives r (pos f.bytes) f.bytes before after left)
       (sym (list-is files d most node len dir name is ∙ ap (λ k. cond (test && k == 0) (fails EINVAL files) (listed files d fit)) (sym h.entries) ∙ ap (λ b. cond b (fails EINVAL files) (listed files d fit)) stuck))
-      (record { answers = ap pos h.bytes; fills = h.fills; leaves = l ∙ ap (λ k. set_offset d ((description_of files d).offset + k) files) h.entries })
+      (record { answers = ap pos h.bytes; gives = sym h.bytes; fills = h.fills; leaves = l ∙ ap (λ k. set_offset d ((description_of files d).offset + k) files) h.entries })

@@ -1,5 +1,5 @@
 -- Bytes that stand at the front of a buffer.
-use Rattle.std.specs.Prelude.{ℤ, ℕ, ◌+◌, ◌≡◌, List, ◌++◌, length, drop, Option, option_map}
+use Rattle.std.specs.Prelude.{ℤ, pos, negsuc, ℕ, ◌+◌, ◌≡◌, List, ◌++◌, length, drop, Option, option_map}
 use Rattle.file_model.specs.Acts.{directory_record, all_records, records_that_fit, joined}
 use Rattle.file_model.specs.Files.{Files}
 use Rattle.file_model.specs.Operations.{FileResult}
@@ -24,8 +24,18 @@ pub record IsFilled (records : List (List ℕ)) (filled : Filled) (before after 
   pub bytes : filled.bytes ≡ length (joined records)
   pub fills : after ≡ placed (joined records) before
 
--- an operation answers and leaves what its result says, and its bytes stand at the front of the buffer
-pub record Gives (r : FileResult) (value : ℤ) (before after : List ℕ) (left : Files) : Type 0 where
+-- how many bytes come with an answer: none with an error, and so many with a value, or as many as the value says
+abbrev pub len_with : ℕ → ℤ → ℕ
+len_with len (pos n) = len
+len_with len (negsuc n) = 0
+
+abbrev pub len_said : ℤ → ℕ
+len_said (pos n) = n
+len_said (negsuc n) = 0
+
+-- an operation answers and leaves what its result says, and its bytes, of that length, stand at the front of the buffer
+pub record Gives (r : FileResult) (value : ℤ) (len : ℕ) (before after : List ℕ) (left : Files) : Type 0 where
   pub answers : value ≡ r.answer
+  pub gives : length r.out ≡ len
   pub fills : after ≡ placed r.out before
   pub leaves : left ≡ r.files

@@ -1,5 +1,5 @@
 // close, ioctl, lseek, and the acts of the reading and writing calls.
-ghost use Rattle.std.specs.Prelude.{◌≡◌, ◌<◌, ◌-◌, ◌^◌, ◌+ℤ◌, pos, ℕ};
+ghost use Rattle.std.specs.Prelude.{◌≡◌, ◌<◌, ◌-◌, ◌^◌, ◌+ℤ◌, ◌<ℤ◌, pos, ℕ};
 ghost use Rattle.file_model.specs.Acts as acts;
 ghost use Rattle.file_model.specs.Acts.{found, offset_error, seek_from, seek_to};
 ghost use Rattle.file_model.specs.Files.{description_of, node_of};
@@ -98,7 +98,8 @@ fn offset_error(target: Target, at: Option<i64>) -> Option<u32>
 /// The call takes the description, where its offset and count are such as they may be.
 fn take<S: FileStore>(files: &mut S, d: u32, target: Target, at: Option<i64>, count: i32) -> i64
     requires { (description_of (S.files files.old) d).calls < 2 ^ 32 - 1 }
-    ensures { done result (S.files files.new) ≡ found (S.files files.old) d target at count }
+    ensures is { done result (S.files files.new) ≡ found (S.files files.old) d target at count }
+    ensures few { result <ℤ pos (2 ^ 32) }
 {
     if let Some(errno) = offset_error(target, at) {
         return fails(errno);
@@ -113,7 +114,8 @@ fn take<S: FileStore>(files: &mut S, d: u32, target: Target, at: Option<i64>, co
 /// The act of a reading call.
 pub fn read<S: FileStore>(files: &mut S, pid: Pid, fd: i32, at: Option<i64>, count: i32) -> i64
     requires { (d : ℕ) → (description_of (S.files files.old) d).calls < 2 ^ 32 - 1 }
-    ensures { done result (S.files files.new) ≡ acts.read_act (S.files files.old) pid.0 fd at count }
+    ensures is { done result (S.files files.new) ≡ acts.read_act (S.files files.old) pid.0 fd at count }
+    ensures few { result <ℤ pos (2 ^ 32) }
 {
     let Some(d) = described(files, pid, fd) else {
         return fails(EBADF);
@@ -133,7 +135,8 @@ pub fn read<S: FileStore>(files: &mut S, pid: Pid, fd: i32, at: Option<i64>, cou
 /// The act of a writing call.
 pub fn write<S: FileStore>(files: &mut S, pid: Pid, fd: i32, at: Option<i64>, count: i32) -> i64
     requires { (d : ℕ) → (description_of (S.files files.old) d).calls < 2 ^ 32 - 1 }
-    ensures { done result (S.files files.new) ≡ acts.write_act (S.files files.old) pid.0 fd at count }
+    ensures is { done result (S.files files.new) ≡ acts.write_act (S.files files.old) pid.0 fd at count }
+    ensures few { result <ℤ pos (2 ^ 32) }
 {
     let Some(d) = described(files, pid, fd) else {
         return fails(EBADF);

@@ -1,6 +1,6 @@
 // Pieces of reading streams.
-ghost use Rattle.std.specs.Prelude.{◌≡◌, ◌<◌, ◌-◌, ◌^◌, IfSome, IsNone, length};
-ghost use Rattle.file_calls.specs.Placed.{Gives};
+ghost use Rattle.std.specs.Prelude.{◌≡◌, ◌<◌, ◌^◌, IsNone, length};
+ghost use Rattle.file_calls.specs.Placed.{Gives, len_said};
 ghost use Rattle.file_model.specs.Files.{description_of};
 ghost use Rattle.file_model.specs.Streams as streams;
 ghost use Rattle.file_model.specs.Streams.{moved_on};
@@ -22,9 +22,8 @@ pub fn move_on<S: FileStore>(files: &mut S, d: u32, at: Option<u64>, end: u64)
 
 /// Reads a piece of a file.
 fn get_file<S: FileStore>(files: &mut S, d: u32, at: Option<u64>, moved: u32, node: u64, into: &mut [u8]) -> i64
-    requires at { IfSome at (λ n. n < 2 ^ 63) }
-    requires target { (description_of (S.files files.old) d).target ≡ target.OfNode node }
-    ensures { Gives (streams.get_piece (S.files files.old) d at moved (length into.old)) result into.old into.new (S.files files.new) }
+    requires { (description_of (S.files files.old) d).target ≡ target.OfNode node }
+    ensures { Gives (streams.get_piece (S.files files.old) d at moved (length into.old)) result (len_said result) into.old into.new (S.files files.new) }
 {
     let offset = read_offset(files.description(d), at, moved);
     let left = files.file_len(node).saturating_sub(offset);
@@ -38,7 +37,7 @@ fn get_file<S: FileStore>(files: &mut S, d: u32, at: Option<u64>, moved: u32, no
 /// Takes a piece out of a pipe.
 fn get_pipe<S: FileStore>(files: &mut S, d: u32, at: Option<u64>, moved: u32, pipe: u32, into: &mut [u8]) -> i64
     requires { (description_of (S.files files.old) d).target ≡ target.ReadEnd pipe }
-    ensures { Gives (streams.get_piece (S.files files.old) d at moved (length into.old)) result into.old into.new (S.files files.new) }
+    ensures { Gives (streams.get_piece (S.files files.old) d at moved (length into.old)) result (len_said result) into.old into.new (S.files files.new) }
 {
     let len = files.pipe_len(pipe).min(into.len() as u64);
     let (front, _) = into.split_at_mut(len as usize);
@@ -49,7 +48,7 @@ fn get_pipe<S: FileStore>(files: &mut S, d: u32, at: Option<u64>, moved: u32, pi
 /// Takes a piece of a console's input.
 fn get_input<S: FileStore>(files: &mut S, d: u32, at: Option<u64>, moved: u32, guest: u32, into: &mut [u8]) -> i64
     requires { (description_of (S.files files.old) d).target ≡ target.OfConsole guest }
-    ensures { Gives (streams.get_piece (S.files files.old) d at moved (length into.old)) result into.old into.new (S.files files.new) }
+    ensures { Gives (streams.get_piece (S.files files.old) d at moved (length into.old)) result (len_said result) into.old into.new (S.files files.new) }
 {
     let len = files.input_len(guest).min(into.len() as u64);
     let (front, _) = into.split_at_mut(len as usize);
@@ -59,8 +58,7 @@ fn get_input<S: FileStore>(files: &mut S, d: u32, at: Option<u64>, moved: u32, g
 
 /// Moves a piece of a reading stream into the buffer, as many bytes as there are and fit.
 pub fn get<S: FileStore>(files: &mut S, d: u32, at: Option<u64>, moved: u32, into: &mut [u8]) -> i64
-    requires { IfSome at (λ n. n < 2 ^ 63) }
-    ensures { Gives (streams.get_piece (S.files files.old) d at moved (length into.old)) result into.old into.new (S.files files.new) }
+    ensures { Gives (streams.get_piece (S.files files.old) d at moved (length into.old)) result (len_said result) into.old into.new (S.files files.new) }
 {
     match files.description(d).target {
         Target::OfNode(node) => get_file(files, d, at, moved, node, into),

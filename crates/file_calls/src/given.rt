@@ -1,6 +1,6 @@
 // The acts that give bytes out: pipe2, fstat and getdents64.
 ghost use Rattle.std.specs.Prelude.{◌≡◌, ◌≤◌, ◌<◌, ◌==◌, ◌&&◌, nat_lt, drop, length, min, ℕ};
-ghost use Rattle.file_calls.specs.Placed.{Gives};
+ghost use Rattle.file_calls.specs.Placed.{Gives, len_said, len_with};
 ghost use Rattle.file_model.specs.Acts as acts;
 ghost use Rattle.file_model.specs.Acts.{all_records, list_node, stat_of_target};
 ghost use Rattle.mck_word.specs.Maps.{count};
@@ -25,7 +25,7 @@ pub fn pipe2<S: FileStore>(files: &mut S, pid: Pid, flags: u32, into: &mut [u8])
     requires pipes { 1 ≤ (S.room files.old).pipes }
     requires opens { 2 ≤ (S.room files.old).opens }
     requires bytes { length into.old ≡ 8 }
-    ensures { Gives (acts.pipe2 (S.files files.old) pid.0 flags) result into.old into.new (S.files files.new) }
+    ensures { Gives (acts.pipe2 (S.files files.old) pid.0 flags) result (len_with 8 result) into.old into.new (S.files files.new) }
 {
     if flags != 0 && flags != O_CLOEXEC {
         return fails(EINVAL);
@@ -58,7 +58,7 @@ fn put_target<S: FileStore>(files: &S, target: Target, into: &mut [u8])
 /// Gives out the stat record of what a descriptor names.
 pub fn fstat<S: FileStore>(files: &S, pid: Pid, fd: i32, into: &mut [u8]) -> i64
     requires { length into.old ≡ 128 }
-    ensures { Gives (acts.fstat (S.files files.now) pid.0 fd) result into.old into.new (S.files files.now) }
+    ensures { Gives (acts.fstat (S.files files.now) pid.0 fd) result (len_with 128 result) into.old into.new (S.files files.now) }
 {
     let Some(d) = described(files, pid, fd) else {
         return fails(EBADF);
@@ -76,7 +76,7 @@ fn is_stuck<S: FileStore>(files: &S, here: u64, place: u64, entries: u64) -> boo
 
 /// Gives out the entries of a node from the description's place on.
 fn list<S: FileStore>(files: &mut S, d: u32, node: u64, into: &mut [u8]) -> i64
-    ensures { (most : ℕ) → length into.old ≡ min most 65_536 → Gives (list_node (S.files files.old) d most node) result into.old into.new (S.files files.new) }
+    ensures { (most : ℕ) → length into.old ≡ min most 65_536 → Gives (list_node (S.files files.old) d most node) result (len_said result) into.old into.new (S.files files.new) }
 {
     if !files.is_directory(node) {
         return fails(ENOTDIR);
@@ -96,7 +96,7 @@ fn list<S: FileStore>(files: &mut S, d: u32, node: u64, into: &mut [u8]) -> i64
 /// Gives out the entries of a directory, as many whole ones as fit.
 pub fn getdents<S: FileStore>(files: &mut S, pid: Pid, fd: i32, most: u64, into: &mut [u8]) -> i64
     requires { length into.old ≡ min most 65_536 }
-    ensures { Gives (acts.getdents (S.files files.old) pid.0 fd most) result into.old into.new (S.files files.new) }
+    ensures { Gives (acts.getdents (S.files files.old) pid.0 fd most) result (len_said result) into.old into.new (S.files files.new) }
 {
     let Some(d) = described(files, pid, fd) else {
         return fails(EBADF);

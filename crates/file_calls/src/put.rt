@@ -1,10 +1,10 @@
 // Pieces of writing streams.
-ghost use Rattle.std.specs.Prelude.{◌≡◌, ◌<◌, ◌-◌, ◌^◌, IfSome, length};
+ghost use Rattle.std.specs.Prelude.{◌≡◌, ◌<◌, length};
 ghost use Rattle.file_calls.specs.Pieces.{HasPutRoom};
-ghost use Rattle.file_model.specs.Files.{description_of};
+ghost use Rattle.file_model.specs.Files.{description_of, most_file_bytes};
 ghost use Rattle.file_model.specs.Operations.{done};
 ghost use Rattle.file_model.specs.Streams as streams;
-ghost use Rattle.file_model.specs.Streams.{put_bytes};
+ghost use Rattle.file_model.specs.Streams.{put_bytes, write_offset};
 ghost use Rattle.file_model.specs.declared.descriptions.Target.{Target as target};
 ghost use Rattle.file_model.specs.declared.operations.Readiness.{Readiness as readiness};
 
@@ -16,8 +16,8 @@ use file_model::{Readiness, Target};
 
 /// Writes a piece into a file.
 fn put_file<S: FileStore>(files: &mut S, d: u32, at: Option<u64>, moved: u32, node: u64, from: &[u8]) -> i64
-    requires at { IfSome at (λ n. n < 2 ^ 63) }
     requires target { (description_of (S.files files.old) d).target ≡ target.OfNode node }
+    requires below { write_offset (S.files files.old) (description_of (S.files files.old) d) at moved < most_file_bytes }
     requires room { HasPutRoom (S.can_write files.old) (S.files files.old) d at moved (length from.now) }
     ensures { done result (S.files files.new) ≡ put_bytes (S.files files.old) d at moved from.now (target.OfNode node) }
 {
@@ -55,7 +55,6 @@ fn put_output<S: FileStore>(files: &mut S, d: u32, at: Option<u64>, moved: u32, 
 
 /// Moves a piece of `len` bytes of a writing stream. Where it is ready, `from` has those bytes.
 pub fn put<S: FileStore>(files: &mut S, d: u32, at: Option<u64>, moved: u32, len: u32, from: &[u8]) -> i64
-    requires at { IfSome at (λ n. n < 2 ^ 63) }
     requires whole { streams.write_ready (S.files files.old) d at moved len ≡ readiness.Ready → length from.now ≡ len }
     requires room { HasPutRoom (S.can_write files.old) (S.files files.old) d at moved len }
     ensures { done result (S.files files.new) ≡ streams.put_piece (S.files files.old) d at moved len from.now }

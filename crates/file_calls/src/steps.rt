@@ -1,10 +1,11 @@
 // The file steps.
-ghost use Rattle.std.specs.Prelude.{◌≡◌, ◌<◌, ◌^◌, IfSome, length};
-ghost use Rattle.file_calls.specs.FileSteps.{Allows, HasOffset, IsStep, answered};
+ghost use Rattle.std.specs.Prelude.{◌≡◌, length};
+ghost use Rattle.file_calls.specs.FileSteps.{Allows, IsNumber, IsStep, answered, given_len};
 ghost use Rattle.file_calls.specs.Pieces.{HasPutRoom, HasRoom};
 ghost use Rattle.file_model.specs.FileSteps as steps;
 ghost use Rattle.file_model.specs.Streams as streams;
 ghost use Rattle.file_model.specs.Streams.{get_piece, put_piece};
+ghost use Rattle.file_model.specs.declared.operations.FileOp.{FileOp as operation};
 ghost use Rattle.file_model.specs.declared.operations.Readiness.{Readiness as readiness};
 
 use crate::descriptors::{close, ioctl, lseek, read, write};
@@ -20,7 +21,6 @@ use mck_word::Pid;
 
 /// How the step of an operation stands: an act is always a file step.
 pub fn ready<S: FileStore>(files: &S, op: &FileOp) -> Readiness
-    requires { HasOffset op.now }
     ensures { result ≡ steps.ready (S.files files.now) op.now }
 {
     match *op {
@@ -32,8 +32,7 @@ pub fn ready<S: FileStore>(files: &S, op: &FileOp) -> Readiness
 
 /// The step of a reading stream's piece.
 fn get_step<S: FileStore>(files: &mut S, desc: u32, at: Option<u64>, moved: u32, into: &mut [u8]) -> FileAns
-    requires { IfSome at (λ n. n < 2 ^ 63) }
-    ensures { IsStep (get_piece (S.files files.old) desc at moved (length into.old)) (streams.read_ready (S.files files.old) desc at moved) result into.old into.new (S.files files.new) }
+    ensures { IsStep (get_piece (S.files files.old) desc at moved (length into.old)) (streams.read_ready (S.files files.old) desc at moved) result (given_len (operation.Get desc at moved (length into.old)) result) into.old into.new (S.files files.new) }
 {
     let kind = read_ready(files, desc, at, moved);
     let value = get(files, desc, at, moved, into);
@@ -42,10 +41,9 @@ fn get_step<S: FileStore>(files: &mut S, desc: u32, at: Option<u64>, moved: u32,
 
 /// The step of a writing stream's piece.
 fn put_step<S: FileStore>(files: &mut S, desc: u32, at: Option<u64>, moved: u32, len: u32, from: &[u8]) -> FileAns
-    requires at { IfSome at (λ n. n < 2 ^ 63) }
     requires whole { streams.write_ready (S.files files.old) desc at moved len ≡ readiness.Ready → length from.now ≡ len }
     requires room { HasPutRoom (S.can_write files.old) (S.files files.old) desc at moved len }
-    ensures { IsStep (put_piece (S.files files.old) desc at moved len from.now) (streams.write_ready (S.files files.old) desc at moved len) result from.now from.now (S.files files.new) }
+    ensures { IsStep (put_piece (S.files files.old) desc at moved len from.now) (streams.write_ready (S.files files.old) desc at moved len) result 0 from.now from.now (S.files files.new) }
 {
     let kind = write_ready(files, desc, at, moved, len);
     let value = put(files, desc, at, moved, len, from);
@@ -68,7 +66,8 @@ fn answered(kind: Readiness, value: i64) -> FileAns
 pub fn file_step<S: FileStore>(files: &mut S, pid: Pid, op: &FileOp, io: &mut [u8]) -> FileAns
     requires room { HasRoom (S.room files.old) (S.can_write files.old) (S.files files.old) op.now }
     requires allowed { Allows (S.files files.old) op.now io.old }
-    ensures { IsStep (steps.file_step (S.files files.old) pid.0 op.now io.old) (steps.ready (S.files files.old) op.now) result io.old io.new (S.files files.new) }
+    ensures few { IsNumber op.now result }
+    ensures step { IsStep (steps.file_step (S.files files.old) pid.0 op.now io.old) (steps.ready (S.files files.old) op.now) result (given_len op.now result) io.old io.new (S.files files.new) }
 {
     let answer = match *op {
         FileOp::Openat { dirfd, flags } => openat(files, pid, dirfd, flags, io),

@@ -1,17 +1,18 @@
 // What a store of files offers to the file calls.
-ghost use Rattle.std.specs.Prelude.{◌≡◌, ◌≤◌, ◌<◌, ◌+◌, ◌-◌, ◌^◌, ◌==◌, ℕ, List, [], Some, None, IsTrue, IfSome, OnOk, length, take, drop, min, nat_lt, slice_get, not};
+ghost use Rattle.std.specs.Prelude.{◌≡◌, ◌≤◌, ◌<◌, ◌+◌, ◌-◌, ◌^◌, ◌==◌, ℕ, List, [], Some, None, IsTrue, IfSome, OnErr, OnOk, option_map, length, take, drop, min, nat_lt, slice_get, not};
 ghost use Rattle.std.specs.Option.{option_copied};
 ghost use Rattle.mck_word.specs.Maps.{at, count};
-ghost use Rattle.file_model.specs.Files.{Files, node_of, pipe_of, console_of, description_of, named_by, descriptors_of, lowest_free, is_open, total_bytes, set_offset, set_bytes, set_pipe};
+ghost use Rattle.file_model.specs.Files.{Console, Files, node_of, pipe_of, console_of, description_of, named_by, descriptors_of, lowest_free, is_open, total_bytes, set_offset, set_bytes, set_pipe};
 ghost use Rattle.file_model.specs.Files as files_of;
 ghost use Rattle.file_model.specs.Paths as paths;
 ghost use Rattle.file_model.specs.Acts as acts;
 ghost use Rattle.file_model.specs.Streams as streams;
 ghost use Rattle.file_model.specs.declared.descriptions.Target.{Target as target};
+ghost use Rattle.file_calls.specs.Pieces.{HasRoom};
 ghost use Rattle.file_calls.specs.Rooms.{Room};
 
-use file_model::{Description, Target};
-use mck_word::Pid;
+use file_model::{Description, FileOp, Target};
+use mck_word::{NoMemory, Pid};
 
 /// A store of files, seen as the files that it holds.
 ///
@@ -188,4 +189,35 @@ pub trait FileStore: Sized {
     fn add_output(&mut self, guest: u32, from: &[u8])
         requires { can_write self.old (target.OfConsole guest) (length (console_of (files self.old) guest).output + length from.now) }
         ensures { files self.new ≡ streams.with_output guest from.now (files self.old) };
+
+    // ---- room, processes, what the job puts in and the report reads
+
+    /// Makes the room that an operation needs.
+    fn make_room(&mut self, op: &FileOp) -> Result<(), NoMemory>
+        ensures same { files self.new ≡ files self.old }
+        ensures room { OnOk result (HasRoom (room self.new) (can_write self.new) (files self.new) op.now) };
+
+    /// Closes all descriptors of a process.
+    fn close_all(&mut self, pid: Pid)
+        ensures { files self.new ≡ files_of.close_all pid.0 (files self.old) };
+
+    /// Makes the room that one more `share` needs.
+    fn make_share(&mut self) -> Result<(), NoMemory>
+        ensures same { files self.new ≡ files self.old }
+        ensures room { OnOk result (1 ≤ (room self.new).shares) };
+
+    /// Gives a child its parent's descriptors.
+    fn share(&mut self, parent: Pid, child: Pid)
+        requires { 1 ≤ (room self.old).shares }
+        ensures { files self.new ≡ files_of.share parent.0 child.0 (files self.old) };
+
+    /// Adds a console with that input, and the descriptors 0, 1 and 2 of a process on it.
+    fn process(&mut self, pid: Pid, input: &[u8]) -> Result<(), NoMemory>
+        requires { at (files self.old).descriptors pid.0 ≡ None }
+        ensures ok { OnOk result (files self.new ≡ files_of.with_console pid.0 input.now (files self.old)) }
+        ensures err { OnErr result (files self.new ≡ files self.old) };
+
+    /// The output of a guest's console.
+    fn output(&self, guest: Pid) -> Option<&[u8]>
+        ensures { option_copied result ≡ option_map (λ (c : Console). c.output) (at (files self.now).consoles guest.0) };
 }

@@ -1,6 +1,6 @@
 // How the pieces of streams stand.
-ghost use Rattle.std.specs.Prelude.{◌≡◌, ◌+◌, ◌<◌, ◌^◌, IfSome, IsNone, nat_le};
-ghost use Rattle.file_model.specs.Files.{most_bytes_of_all_files};
+ghost use Rattle.std.specs.Prelude.{◌≡◌, ◌-◌, ◌<◌, ◌^◌, IsNone, min, nat_le};
+ghost use Rattle.file_model.specs.Files.{most_bytes_of_all_files, most_file_bytes};
 ghost use Rattle.file_model.specs.Streams as streams;
 ghost use Rattle.file_model.specs.Streams.{read_offset, read_ready, total_after, write_error, write_offset, write_ready};
 
@@ -13,30 +13,26 @@ const MOST_BYTES_OF_ALL_FILES: u64 = 67_108_864;
 pub const MOST_CONSOLE_BYTES: u64 = 1_048_576;
 pub const MOST_PIPE_BYTES: u64 = 65_536;
 
-/// Where the next piece is read in a file.
+/// Where the next piece is read in a file, as far as a u64 tells it.
 pub fn read_offset(description: Description, at: Option<u64>, moved: u32) -> u64
-    requires at { IfSome at (λ n. n < 2 ^ 63) }
-    requires own { description.offset < 2 ^ 63 }
-    ensures is { result ≡ read_offset description at moved }
-    ensures bound { result < 2 ^ 63 + 2 ^ 32 }
+    requires { description.offset < 2 ^ 63 }
+    ensures is { result ≡ min (read_offset description at moved) (2 ^ 64 - 1) }
     ensures own { IsNone at → result < 2 ^ 63 }
 {
     match at {
         None => description.offset,
-        Some(at) => at + u64::from(moved),
+        Some(at) => at.saturating_add(u64::from(moved)),
     }
 }
 
-/// Where the next piece is written in a file.
+/// Where the next piece is written in a file, as far as a u64 tells it.
 pub fn write_offset<S: FileStore>(files: &S, description: Description, at: Option<u64>, moved: u32) -> u64
-    requires at { IfSome at (λ n. n < 2 ^ 63) }
-    requires own { description.offset < 2 ^ 63 }
-    ensures is { result ≡ write_offset (S.files files.now) description at moved }
-    ensures bound { result < 2 ^ 63 + 2 ^ 32 }
+    requires { description.offset < 2 ^ 63 }
+    ensures is { result ≡ min (write_offset (S.files files.now) description at moved) (2 ^ 64 - 1) }
     ensures own { IsNone at → result < 2 ^ 63 }
 {
     match at {
-        Some(at) => at + u64::from(moved),
+        Some(at) => at.saturating_add(u64::from(moved)),
         None => match description.target {
             Target::OfNode(node) if description.append => files.file_len(node),
             _ => description.offset,
@@ -56,7 +52,6 @@ fn ready_if(can_move: bool) -> Readiness
 
 /// How a piece of a reading stream stands.
 pub fn read_ready<S: FileStore>(files: &S, d: u32, at: Option<u64>, moved: u32) -> Readiness
-    requires { IfSome at (λ n. n < 2 ^ 63) }
     ensures { result ≡ read_ready (S.files files.now) d at moved }
 {
     let description = files.description(d);
@@ -79,7 +74,7 @@ pub fn read_ready<S: FileStore>(files: &S, d: u32, at: Option<u64>, moved: u32) 
 
 /// Whether the bytes of all files stay within their limit where a file gets a piece at an offset.
 fn fits<S: FileStore>(files: &S, node: u64, offset: u64, len: u32) -> bool
-    requires { offset < 2 ^ 63 + 2 ^ 32 }
+    requires { offset < most_file_bytes }
     ensures { result ≡ nat_le (total_after (S.files files.now) node offset len) most_bytes_of_all_files }
 {
     let before = files.file_len(node);
@@ -90,7 +85,6 @@ fn fits<S: FileStore>(files: &S, node: u64, offset: u64, len: u32) -> bool
 
 /// How a piece of a writing stream stands.
 pub fn write_ready<S: FileStore>(files: &S, d: u32, at: Option<u64>, moved: u32, len: u32) -> Readiness
-    requires { IfSome at (λ n. n < 2 ^ 63) }
     ensures { result ≡ write_ready (S.files files.now) d at moved len }
 {
     let description = files.description(d);
@@ -115,8 +109,7 @@ pub fn write_ready<S: FileStore>(files: &S, d: u32, at: Option<u64>, moved: u32,
 
 /// The error of a piece that can't move and doesn't wait.
 pub fn write_error<S: FileStore>(files: &S, description: Description, at: Option<u64>, moved: u32) -> u32
-    requires at { IfSome at (λ n. n < 2 ^ 63) }
-    requires own { description.offset < 2 ^ 63 }
+    requires { description.offset < 2 ^ 63 }
     ensures { result ≡ write_error (S.files files.now) description at moved description.target }
 {
     match description.target {

@@ -1,6 +1,6 @@
 use Rattle.std.proofs.Common.{rules, ◌≡◌, sym, ap, subst, ◌∙◌, true, false, length, List, ℕ, w64, of_z, to_z}
 use Rattle.std.specs.Prelude.{◌&&◌, ◌==◌, drop, nat_lt, pos, ◌+◌}
-use Rattle.file_calls.specs.Placed.{Gives, IsFilled, fitting}
+use Rattle.file_calls.specs.Placed.{Gives, IsFilled, fitting, len_said}
 use Rattle.file_model.specs.Acts.{all_records, list_node}
 use Rattle.file_model.specs.Files.{description_of, set_offset}
 use Rattle.file_model.specs.Errno.{EINVAL}
@@ -25,7 +25,7 @@ returns g c = λ most is.
     let place = ap (λ d. d.offset) c.description-place.ensures.is in
     let bound = c.put_entries-filled.ensures.bound in
     let value : to_z w64 c.put_entries-filled.result.bytes ≡ pos c.put_entries-filled.result.bytes = search rules in
-    subst (λ v. Gives (list_node files c.args.d most c.args.node) v c.args.into.now c.put_entries-filled.new.into (g.S.FileStore.files c.set_offset.new.self)) (sym value)
+    subst (λ v. Gives (list_node files c.args.d most c.args.node) v (len_said v) c.args.into.now c.put_entries-filled.new.into (g.S.FileStore.files c.set_offset.new.self)) (sym value)
     (list-filled files (g.S.FileStore.files c.set_offset.new.self) c.args.d most c.args.node (length c.args.into.now) c.put_entries-filled.result c.args.into.now c.put_entries-filled.new.into
       (sym c.is_directory.ensures ∙ c.if-not-is_directory.false) (sym c.is_unlinked.ensures ∙ c.if-is_unlinked.false) is
       (subst (λ k. IsFilled (fitting files c.args.node k (length c.args.into.now)) c.put_entries-filled.result c.args.into.now c.put_entries-filled.new.into) place c.put_entries-filled.ensures.filled)
