@@ -41,7 +41,7 @@ abbrev Fits : Bool → FileOp → Type 0
 Fits true op = Finding op
 Fits false op = Other op
 
-by-member : (P : ℕ → Type 0) (ns : List ℕ) → Each P ns → (n : ℕ) → member n ns ≡ true → P n
+pub by-member : (P : ℕ → Type 0) (ns : List ℕ) → Each P ns → (n : ℕ) → member n ns ≡ true → P n
 by-member P [] h n e = absurd (grind (arith, e))
 by-member P (m ∷ ns) h n e = go (m == n) refl e (by-member P ns h.1 n)
   where

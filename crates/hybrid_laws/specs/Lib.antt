@@ -104,3 +104,4 @@ pub mod SoundNode
 pub mod WholeNode
 pub mod WholeQuiet
 pub mod WholeDeliver
+pub mod Started
