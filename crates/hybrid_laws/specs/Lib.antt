@@ -94,3 +94,6 @@ pub mod SoundNode
 pub mod WholeNode
 pub mod WholeQuiet
 pub mod WholeDeliver
+pub mod WholeRun
+pub mod WholeWait
+pub mod WholeScript
