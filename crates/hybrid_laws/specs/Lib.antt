@@ -97,3 +97,6 @@ pub mod WholeDeliver
 pub mod WholeRun
 pub mod WholeWait
 pub mod WholeScript
+pub mod WholeRunSteps
+pub mod WholeBeginVm
+pub mod WholeAnswerRow
