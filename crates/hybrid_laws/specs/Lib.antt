@@ -100,3 +100,5 @@ pub mod WholeScript
 pub mod WholeRunSteps
 pub mod WholeBeginVm
 pub mod WholeAnswerRow
+pub mod WholeIntakeFault
+pub mod WholeIntakeReply
