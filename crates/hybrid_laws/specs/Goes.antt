@@ -127,7 +127,7 @@ sleeper-stays a b s f h = let y = f h.0 h.1 in (y.0, y.1, y.2 ∙ h.2, y.3 ∙ h
 sleepers-stay : (a b : Node) (ss : List Sleeper) → ((u : ℕ) → SameSleep a b u) → Each (SleeperIs a) ss → Each (SleeperIs b) ss
 sleepers-stay a b ss f h = Each-map (SleeperIs a) (SleeperIs b) ss (λ s k. sleeper-stays a b s (f s.thread) k) h
 
-awake-stay : (t : ℕ) (a b : Node) (ss : List Sleeper) → ((u : ℕ) → (u == t) ≡ false → SameSleep a b u) → Each (λ (s : Sleeper). (s.thread == t) ≡ false) ss → Each (SleeperIs a) ss → Each (SleeperIs b) ss
+pub awake-stay : (t : ℕ) (a b : Node) (ss : List Sleeper) → ((u : ℕ) → (u == t) ≡ false → SameSleep a b u) → Each (λ (s : Sleeper). (s.thread == t) ≡ false) ss → Each (SleeperIs a) ss → Each (SleeperIs b) ss
 awake-stay t a b ss f n h = Each-map (λ (s : Sleeper). ((s.thread == t) ≡ false) × SleeperIs a s) (SleeperIs b) ss (λ s k. sleeper-stays a b s (f s.thread k.0) k.1) (Each-both (λ (s : Sleeper). (s.thread == t) ≡ false) (SleeperIs a) ss n h)
 
 same-other : (a : Node) (t u : ℕ) (f : Thread → Thread) → (u == t) ≡ false → SameSleep a (change_thread t f a) u

@@ -89,7 +89,7 @@ module _ (p : ℕ) (h : Here) (w page : ℕ) (a : Access) (rest : List Msg) (fir
   unfolding take_fault
   others_intake_fault q side workers ring k = subst (λ (ms : List Msg). OfProcess q side (intake p ms h).node workers ring) (sym first) k
 
-  shows_fault : shown_here (take_fault w page a rest h) ≡ shown_here h
+  pub shows_fault : shown_here (take_fault w page a rest h) ≡ shown_here h
   unfolding take_fault
   shows_fault =
     let side' : Side = record h.side { lwk = record h.side.lwk { noted = put h.side.lwk.noted w (page, a) }; to_lwk = rest } in

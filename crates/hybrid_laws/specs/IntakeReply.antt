@@ -141,7 +141,7 @@ module _ (p : ℕ) (h : Here) (n : Req) (code : ℤ) (rest : List Msg) (first : 
   pub awaits : IsAwaited (at h.side.book.rows) (at h.side.lwk.callers) n.0
   awaits = answers.awaited.0
 
-  abbrev t : ℕ
+  abbrev pub t : ℕ
   t = awaits.thread
 
   pub caller : CallerIs h.side.lwk.callers n.0 t
@@ -151,10 +151,10 @@ module _ (p : ℕ) (h : Here) (n : Req) (code : ℤ) (rest : List Msg) (first : 
   pub thread : (x : Thread) × (at h.node.threads t ≡ Some x) × (x.process ≡ p)
   thread = k.calls.there t awaits.caller awaits.calls
 
-  called : is_called thread.0.does ≡ true
+  pub called : is_called thread.0.does ≡ true
   called = k.calls.called t thread.0 thread.1 thread.2 ∙ ap is_some awaits.calls
 
-  abbrev new : Node
+  abbrev pub new : Node
   new = returns t code h.node
 
   abbrev one_free : ℕ → Bool
@@ -248,7 +248,7 @@ module _ (p : ℕ) (h : Here) (n : Req) (code : ℤ) (rest : List Msg) (first : 
 
   -- ---- the step
   -- the calls that are shown: that of t is over with the answer, and the others stay
-  status-own : status_of h.side awaits.caller.request ≡ Over code
+  pub status-own : status_of h.side awaits.caller.request ≡ Over code
   status-own =
     let number = awaits.number in let gone = awaits.gone in
     let same : (n.0 == n.0) ≡ true = grind (arith, nat_tests) in
@@ -257,10 +257,10 @@ module _ (p : ℕ) (h : Here) (n : Req) (code : ℤ) (rest : List Msg) (first : 
   call-own : at (each (shown_call h.side) h.side.lwk.callers) t ≡ Some (record { marked = awaits.caller.marked; status = Over code })
   call-own = at-collect (λ k y. Some (shown_call h.side y)) h.side.lwk.callers t ∙ ap (λ o. and_then o (λ y. Some (shown_call h.side y))) awaits.calls ∙ (λ i. Some (record { marked = awaits.caller.marked; status = status-own i }))
 
-  abbrev side' : Side
+  abbrev pub side' : Side
   side' = record h.side { lwk = record h.side.lwk { callers = cut h.side.lwk.callers t }; to_lwk = rest }
 
-  status-other : (u : ℕ) (d : Caller) → (u == t) ≡ false → at h.side.lwk.callers u ≡ Some d → status_of side' d.request ≡ status_of h.side d.request
+  pub status-other : (u : ℕ) (d : Caller) → (u == t) ≡ false → at h.side.lwk.callers u ≡ Some d → status_of side' d.request ≡ status_of h.side d.request
   status-other u d f e =
     let o = other-number (at h.side.book.rows) (at h.side.lwk.callers) h.side.book.next n.0 n refl code rest answers t awaits.caller awaits.calls awaits.number u d f e in
     let b : (n.0 == d.request) ≡ false = grind (arith, nat_tests, o) in

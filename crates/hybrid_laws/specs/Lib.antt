@@ -105,3 +105,11 @@ pub mod WholeNode
 pub mod WholeQuiet
 pub mod WholeDeliver
 pub mod Started
+pub mod WholeRun
+pub mod WholeWait
+pub mod WholeScript
+pub mod WholeRunSteps
+pub mod WholeBeginVm
+pub mod WholeAnswerRow
+pub mod WholeIntakeFault
+pub mod WholeIntakeReply

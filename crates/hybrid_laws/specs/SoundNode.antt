@@ -27,29 +27,58 @@ sound-of pair c = record { threads_below = c.known.threads_below; threads_there 
 pub node-holds : (node : Node) → Sound node → NodeHolds node
 node-holds node s = record { sleeping = s.sleeping; places = s.places; below = s.threads_below; made_below = s.processes_below }
 
--- ---- processes, by what of them lasts
-made-in : Option (ℕ × ℕ × ℕ × Bool) → Bool
+-- ---- threads stay in their processes at their places, and processes keep their heaps and whether they are Ended
+abbrev pub standing : Option Process → Option (ℕ × ℕ × Bool)
+standing None = None
+standing (Some x) = Some (x.heap_base, x.program_break, has_ended x.life)
+
+abbrev pub WasIn : Option Thread → Thread → Type 0
+WasIn o y = (x : Thread) × (o ≡ Some x) × (y.process ≡ x.process) × (y.place ≡ x.place)
+
+pub record Stays (a b : Node) : Type 0 where
+  pub rows : (u : ℕ) (y : Thread) → at b.threads u ≡ Some y → WasIn (at a.threads u) y
+  pub processes : (q : ℕ) → standing (at b.processes q) ≡ standing (at a.processes q)
+  pub next : b.next_number ≡ a.next_number
+
+pub stays-then : (a b c : Node) → Stays a b → Stays b c → Stays a c
+stays-then a b c f g = record {
+  rows = λ u z e. (let y = g.rows u z e in let x = f.rows u y.0 y.1 in (x.0, x.1, y.2 ∙ x.2, y.3 ∙ x.3));
+  processes = λ q. g.processes q ∙ f.processes q;
+  next = g.next ∙ f.next }
+
+stand-in : Option (ℕ × ℕ × ℕ × Bool) → Option (ℕ × ℕ × Bool)
+stand-in None = None
+stand-in (Some x) = Some (x.0, x.1, x.3)
+
+pub goes-stays : (a b : Node) → Goes a b → Stays a b
+unfolding stand-in
+goes-stays a b g = record {
+    rows = λ u y e. (let w = g.rows u y e in (w.0, w.1, w.2, w.3));
+    processes = λ q. stand (at b.processes q) ∙ ap stand-in (g.processes q) ∙ sym (stand (at a.processes q));
+    next = g.next }
+  where
+    stand : (o : Option Process) → standing o ≡ stand-in (lasting o)
+    stand None = refl
+    stand (Some x) = refl
+
+made-in : Option (ℕ × ℕ × Bool) → Bool
 made-in None = false
 made-in (Some x) = true
 
-there-in : Option (ℕ × ℕ × ℕ × Bool) → Bool
-there-in None = false
-there-in (Some x) = not x.3
-
-ended-in : Option (ℕ × ℕ × ℕ × Bool) → Bool
+ended-in : Option (ℕ × ℕ × Bool) → Bool
 ended-in None = true
-ended-in (Some x) = x.3
+ended-in (Some x) = x.2
 
 count-in : Option (ℕ × ℕ × ℕ × Bool) → ℕ
 count-in None = 0
 count-in (Some x) = x.2
 
-module _ (a b : Node) (g : Goes a b) where
+module _ (a b : Node) (g : Stays a b) where
   pub same-made : (q : ℕ) → has_process b q ≡ has_process a q
   unfolding made-in
   same-made q = made (at b.processes q) ∙ ap made-in (g.processes q) ∙ sym (made (at a.processes q))
     where
-      made : (o : Option Process) → is_some o ≡ made-in (lasting o)
+      made : (o : Option Process) → is_some o ≡ made-in (standing o)
       made None = refl
       made (Some x) = refl
 
@@ -57,13 +86,26 @@ module _ (a b : Node) (g : Goes a b) where
   unfolding ended-in
   same-ended q = made (at b.processes q) ∙ ap ended-in (g.processes q) ∙ sym (made (at a.processes q))
     where
-      made : (o : Option Process) → has_ended (unwrap_or o no_process).life ≡ ended-in (lasting o)
+      made : (o : Option Process) → has_ended (unwrap_or o no_process).life ≡ ended-in (standing o)
       made None = refl
       made (Some x) = refl
 
   pub same-there : (q : ℕ) → is_there b q ≡ is_there a q
   same-there q = λ i. same-made q i && not (same-ended q i)
 
+  heap-stays : HeapsHold a → HeapsHold b
+  heap-stays h q y e = go (at a.processes q) refl (sym (g.processes q) ∙ ap standing e)
+    where
+      go : (o : Option Process) → at a.processes q ≡ o → standing o ≡ standing (Some y) → HeapHolds y
+      go None f k = absurd (grind (arith, k))
+      go (Some x) f k =
+        let j : (x.heap_base, x.program_break, has_ended x.life) ≡ (y.heap_base, y.program_break, has_ended y.life) = cc in
+        let k = h q x f in
+        let base = ap (λ (z : ℕ × ℕ × Bool). z.0) j in
+        let top = ap (λ (z : ℕ × ℕ × Bool). z.1) j in
+        record { aligned = ap (λ (n : ℕ). n % page_size) (sym base) ∙ k.aligned; below = (let l = k.below in omega (arith, l, base, top)) }
+
+module _ (a b : Node) (g : Goes a b) where
   pub same-instructions : instructions_in_all b ≡ instructions_in_all a
   unfolding count-in
   same-instructions = total-same (λ (x : Process). x.instructions) b.processes a.processes (λ q. count (at b.processes q) ∙ ap count-in (g.processes q) ∙ sym (count (at a.processes q)))
@@ -71,18 +113,6 @@ module _ (a b : Node) (g : Goes a b) where
       count : (o : Option Process) → counted_in (λ (x : Process). x.instructions) o ≡ count-in (lasting o)
       count None = refl
       count (Some x) = refl
-
-  heap-stays : HeapsHold a → HeapsHold b
-  heap-stays h q y e = go (at a.processes q) refl (sym (g.processes q) ∙ ap lasting e)
-    where
-      go : (o : Option Process) → at a.processes q ≡ o → lasting o ≡ lasting (Some y) → HeapHolds y
-      go None f k = absurd (grind (arith, k))
-      go (Some x) f k =
-        let j : (x.heap_base, x.program_break, x.instructions, has_ended x.life) ≡ (y.heap_base, y.program_break, y.instructions, has_ended y.life) = cc in
-        let k = h q x f in
-        let base = ap (λ (z : ℕ × ℕ × ℕ × Bool). z.0) j in
-        let top = ap (λ (z : ℕ × ℕ × ℕ × Bool). z.1) j in
-        record { aligned = ap (λ (n : ℕ). n % page_size) (sym base) ∙ k.aligned; below = (let l = k.below in omega (arith, l, base, top)) }
 
 -- ---- stopped threads, counted
 abbrev pub stops : Thread → ℕ
@@ -150,8 +180,8 @@ is-awake node t x there n s = each-got (λ (y : Sleeper). (y.thread == t) ≡ fa
       absurd (let k = sym (ap is_asleep h.2) ∙ ap (λ (w : Thread). is_asleep w.does) z ∙ n in grind (arith, k))
 
 -- ---- together
-pub goes-sound : (a b : Node) → Goes a b → Sound a → Sleeping b → Sound b
-goes-sound a b g s sleep = record {
+pub stays-sound : (a b : Node) → Stays a b → Sound a → Sleeping b → Sound b
+stays-sound a b g s sleep = record {
   threads_below = λ t y e. (let w = g.rows t y e in let l = s.threads_below t w.0 w.1 in let n = g.next in omega (arith, l, n));
   threads_there = λ t y e. (let w = g.rows t y e in ap (is_there b) w.2 ∙ same-there a b g w.0.process ∙ s.threads_there t w.0 w.1);
   processes_below = λ q y e. below q y e (at a.processes q) refl;
@@ -163,4 +193,7 @@ goes-sound a b g s sleep = record {
   where
     below : (q : ℕ) (y : Process) → at b.processes q ≡ Some y → (o : Option Process) → at a.processes q ≡ o → q < b.next_number
     below q y e (Some x) f = let l = s.processes_below q x f in let n = g.next in omega (arith, l, n)
-    below q y e None f = absurd (let k = sym (ap lasting e) ∙ g.processes q ∙ ap lasting f in grind (arith, k))
+    below q y e None f = absurd (let k = sym (ap standing e) ∙ g.processes q ∙ ap standing f in grind (arith, k))
+
+pub goes-sound : (a b : Node) → Goes a b → Sound a → Sleeping b → Sound b
+goes-sound a b g s sleep = stays-sound a b (goes-stays a b g) s sleep

@@ -5,7 +5,7 @@ use Rattle.hybrid_laws.specs.Goes.{Goes, GoesAwake, IsAwake}
 use Rattle.hybrid_laws.specs.NodePrimitives.{then}
 use Rattle.hybrid_laws.specs.Reading.{each-same}
 use Rattle.hybrid_laws.specs.RunEvent.{TableApart}
-use Rattle.hybrid_laws.specs.SoundNode.{goes-sound, same-ended, same-instructions, same-made, sleep-once, sleepers-are, sleeping-of, sound-of, stopped-less}
+use Rattle.hybrid_laws.specs.SoundNode.{goes-sound, same-ended, same-instructions, same-made, sleep-once, sleepers-are, sleeping-of, sound-of, stopped-less, goes-stays}
 use Rattle.hybrid_laws.specs.TrapForks.{written-other}
 use Rattle.hybrid_laws.specs.WholeNode.{Keeping}
 use Rattle.hybrid_laws.specs.WholePair.{there-open}
@@ -67,9 +67,9 @@ module _ (pair : Pair) (c : Coherent pair) (p : ℕ) (there : is_there pair.node
     free_below = c.counted.free_below;
     counted = refl;
     frame_count = g.frames;
-    made = same-made pair.node node g;
-    ended_others = λ q n e. sym (same-ended pair.node node g q) ∙ e;
-    ended_own = λ e. absurd (let a = there-open pair.node p there in let b = sym (same-ended pair.node node g p) ∙ e in grind (arith, a, b));
+    made = same-made pair.node node (goes-stays pair.node node g);
+    ended_others = λ q n e. sym (same-ended pair.node node (goes-stays pair.node node g) q) ∙ e;
+    ended_own = λ e. absurd (let a = there-open pair.node p there in let b = sym (same-ended pair.node node (goes-stays pair.node node g) p) ∙ e in grind (arith, a, b));
     rings = refl;
     turns = λ x u. (u, refl);
     ends = λ t e i u. ap (λ (f : Files). pipe_end f (service_of (side_of pair t.process).linux.services t.request).progress) g.files ∙ u;
