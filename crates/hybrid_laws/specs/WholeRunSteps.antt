@@ -118,6 +118,6 @@ module _ (pair : Pair) (c : Coherent pair) (core n : ℕ) (t : Tid) (e : may pai
   simulated_pair_run =
     let s = simulated_run core n p t h allowed (apart-own pair c p) refl in
     record {
-      may_happen = ap (λ (x : OneKernel). OneSteps.may_all x steps) one-is ∙ all-may (one pair) p steps (shown_here h) refl all ∙ s.may_happen;
-      leads = ap (λ (x : OneKernel). OneSteps.after_all x steps) one-is ∙ all-after (one pair) p steps (shown_here h) refl all ∙ ap (put_one (one pair) p) s.leads
+      may = ap (λ (x : OneKernel). OneSteps.may_all x steps) one-is ∙ all-may (one pair) p steps (shown_here h) refl all ∙ s.may_happen;
+      leaves = ap (λ (x : OneKernel). OneSteps.after_all x steps) one-is ∙ all-after (one pair) p steps (shown_here h) refl all ∙ ap (put_one (one pair) p) s.leads
         ∙ sym (one-put pair p (has-side pair c.known p there) (after_here (Events.Run core t n) p h) refl (λ q x m f. other-shown pair c p (ran t.0 n h).memory q x m f)) }
