@@ -9,7 +9,7 @@ use isa_model::Stop;
 use loops::{CALLS, CHECKSUM, NESTED, SIEVE};
 use mck_word::Regs;
 use paged_rows::PagedRows;
-use rv64i_user::{Kept, run_most};
+use rv64i_user::{Kept, KnownWords, run_known};
 
 // What a loop came to.
 #[derive(Clone, Copy)]
@@ -21,7 +21,7 @@ struct Ended {
 
 // Runs to the first stop.
 #[inline(never)]
-fn run(mem: PagedRows) -> Ended {
+fn run(mem: PagedRows, words: &mut KnownWords) -> Ended {
     let mut r = Regs {
         pc: 0x1000,
         x: [0; 32],
@@ -31,7 +31,7 @@ fn run(mem: PagedRows) -> Ended {
     let mut instructions = 0u64;
     for _ in 0..4_000_000u64 {
         let mut stop = Stop::On;
-        let n = run_most(&mut r, &mut mem, &mut stop, 64);
+        let n = run_known(&mut r, &mut mem, words, &mut stop, 64);
         instructions = instructions.wrapping_add(u64::from(n));
         if n < 64 {
             last = stop;
@@ -59,13 +59,17 @@ fn main(rt: HostRuntime) -> anyhow::Result<()> {
         ("nested", &NESTED),
         ("calls", &CALLS),
     ];
+    let Ok(mut known) = KnownWords::new(rt.alloc()) else {
+        println!(rt; "no memory")?;
+        return Ok(());
+    };
     for (name, words) in loops {
         let Ok(mem) = start::memory(rt.alloc(), words) else {
             println!(rt; "{name} no memory")?;
             return Ok(());
         };
         let begun = std::time::Instant::now(&rt)?;
-        let ended = run(mem);
+        let ended = run(mem, &mut known);
         let microseconds = begun.elapsed(&rt)?.as_micros();
         let Ended {
             instructions,

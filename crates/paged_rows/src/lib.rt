@@ -83,7 +83,7 @@ mod tests {
     use super::*;
     use isa_model::{Lack, Stop};
     use mck_word::Regs;
-    use rv64i_user::{Kept, UserMem, run_most, step, step_to};
+    use rv64i_user::{Kept, KnownWords, UserMem, run_known, run_most, step, step_known, step_to};
 
     // A page with words at its beginning.
     fn page(rights: u8, words: &[u32]) -> PageRow {
@@ -181,6 +181,49 @@ mod tests {
             access: Access::Exec,
         };
         assert_eq!(rt; ran(rt.alloc(), &[], 5, &mut r), Ok((Stop::Fault(lack), 0)));
+    }
+
+    // The same with instructions that were decoded before.
+    fn ran_known(rows: PagedRows, words: &mut KnownWords, most: u32, r: &mut Regs) -> (Stop, u32) {
+        let mut mem = Kept::over(rows);
+        let mut stop = Stop::On;
+        let n = run_known(r, &mut mem, words, &mut stop, most);
+        let _rows = mem.into_mem();
+        (stop, n)
+    }
+
+    #[test]
+    fn stores_into_code(rt: HostRuntime) {
+        // addi a0,a0,1; sw a1,0(t0); jal x0,-8; and a1 is the word of addi a0,a0,2
+        let code = [0x0015_0513, 0x00b2_a023, 0xff9f_f06f];
+        if let Ok(mut words) = KnownWords::new(rt.alloc()) {
+            for _ in 0..2 {
+                let mut rows = PagedRows::new(rt.alloc());
+                assert!(rt; rows.push(page(0, &[])).is_ok() && rows.push(page(7, &code)).is_ok());
+                let mut r = start();
+                r.x[5] = 0x1000;
+                r.x[11] = 0x0025_0513;
+                assert_eq!(rt; ran_known(rows, &mut words, 7, &mut r), (Stop::On, 7));
+                assert_eq!(rt; (r.pc, r.x[10]), (0x1004, 5));
+            }
+            let mut rows = PagedRows::new(rt.alloc());
+            // The third of these words is none.
+            let code = [0x0015_0513, 0x02b5_0533, 0x1005_a52f];
+            assert!(rt; rows.push(page(5, &code)).is_ok());
+            let mut r = start();
+            r.pc = 0;
+            r.x[10] = 5;
+            r.x[11] = 7;
+            let mut mem = Kept::over(rows);
+            let mut stop = Stop::On;
+            assert!(rt; step_known(&mut r, &mut mem, &mut words, &mut stop));
+            assert!(rt; step_known(&mut r, &mut mem, &mut words, &mut stop));
+            assert!(rt; !step_known(&mut r, &mut mem, &mut words, &mut stop));
+            assert_eq!(rt; (stop, r.pc, r.x[10]), (Stop::Illegal, 8, 42));
+            let _rows = mem.into_mem();
+        } else {
+            assert!(rt; false);
+        }
     }
 
     #[test]

@@ -11,3 +11,4 @@ pub mod StopLaws
 pub mod SameOutcome
 pub mod SameRuns
 pub mod RunSteps
+pub mod KnownForms
