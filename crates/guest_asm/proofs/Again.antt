@@ -1,5 +1,5 @@
 -- The line of a word says the word again.
-use Rattle.std.proofs.Common.{◌≡◌, ℕ, ◌+◌, ◌^◌, ◌<◌, ◌≤◌, ◌==◌, ◌&&◌, ◌||◌, not, nat_lt, List, [], ◌∷◌, ◌++◌, length, decimal, codes, bytes_eq, Option, Some, None, option_map, Bool, true, false, refl, sym, ◌∙◌, ap, subst, arith, length-append, ℤ, pos, negsuc, if◌then◌else◌}
+use Rattle.std.proofs.Common.{◌≡◌, ℕ, ◌^◌, ◌<◌, ◌≤◌, ◌==◌, ◌&&◌, not, nat_lt, List, [], ◌∷◌, ◌++◌, length, decimal, codes, bytes_eq, Option, Some, None, Bool, true, false, refl, sym, ◌∙◌, ap, arith, length-append, ℤ, pos, negsuc, if◌then◌else◌}
 use Rattle.std.specs.Fmt.{signed_decimal}
 use Rattle.std.proofs.lemmas.Bool.{false≢true}
 use Rattle.std.proofs.lemmas.Bool.Decides.{nat_tests}
@@ -12,7 +12,6 @@ use Rattle.isa_model.specs.declared.forms.Form.TheVariants.{R, I, S, B, U, J}
 use Rattle.rv_code.proofs.Facts.{fits-r, fits-i, fits-s, fits-b, fits-u, fits-j}
 use Rattle.rv_code.proofs.Laws.{decodes-code}
 use Rattle.rv_code.proofs.BoolTests.{and_left}
-use Rattle.guest_asm.specs.declared.layout.Layout.{Layout}
 use Rattle.guest_asm.specs.declared.layout.Layout.TheVariants as layout
 use Rattle.guest_asm.specs.declared.numbers.Number.{Number}
 use Rattle.guest_asm.specs.Lines.{Marks, cut, is_label, target_of, number_target, place_of, registers_form, immediate_form, place_form, store_form, branch_form, upper_form, jump_form, form_in, alone_form, coded, number_word, with_operands, without_operands, by_parts, word_in, is_silent, said}
@@ -88,7 +87,8 @@ op_line marks here op operands form w f g h k =
       word = ap (by_parts marks here (with_text op operands)) (cut_front 32 (name_of op) operands n.no_space) ∙ with_by marks here (name_of op) operands op form w n.no_data n.found f g;
       no_colon = lacks-append 58 (name_of op) (32 ∷ operands) n.no_colon (lacks-cons 58 32 operands refl h);
       no_line_feed = lacks-append 10 (name_of op) (32 ∷ operands) n.no_line_feed (lacks-cons 10 32 operands refl k);
-      some = omega (arith, length-append (name_of op) (32 ∷ operands)); }
+      some = omega (arith, length-append (name_of op) (32 ∷ operands));
+    }
 
 is_coded : (form : Form) (w : ℕ) → is_code form ≡ true → word_of form ≡ w → coded form ≡ Some w
 is_coded form w e f = rw e (ap (λ v. Some v) f)
@@ -199,7 +199,10 @@ alone_line marks here op form w f g =
     let n = name-fits op in
     record {
       word = ap (by_parts marks here (name_of op)) (cut_whole 32 (name_of op) n.no_space) ∙ alone_by (name_of op) op form w n.found f g;
-      no_colon = n.no_colon; no_line_feed = n.no_line_feed; some = grind (arith, nat_tests, n.some); }
+      no_colon = n.no_colon;
+      no_line_feed = n.no_line_feed;
+      some = grind (arith, nat_tests, n.some);
+    }
 
 number_is : (w : ℕ) → w < 2 ^ 32 → number_word (decimal w) ≡ Some w
 number_is w small = ap (λ o. o >>= natural_of 0xffffffff) (literal_decimal w (omega arith)) ∙ natural_is 0xffffffff w (omega arith)
@@ -214,7 +217,8 @@ data_line marks here w small =
       word = ap (by_parts marks here (number_text w)) (cut_front 32 (codes ".word") (decimal w) refl) ∙ data_by marks here (decimal w) w (number_is w small);
       no_colon = lacks-append 58 (codes ".word") (32 ∷ decimal w) refl (lacks-cons 58 32 (decimal w) refl (decimal_lacks 58 w refl (omega arith)));
       no_line_feed = lacks-append 10 (codes ".word") (32 ∷ decimal w) refl (lacks-cons 10 32 (decimal w) refl (decimal_lacks 10 w refl (omega arith)));
-      some = omega arith; }
+      some = omega arith;
+    }
 
 -- the fields of an ecall or an ebreak
 whole_is : (rd a t : ℕ) (z : ℤ) → (rd == 0 && (a == 0 && is_number t z)) ≡ true → (rd ≡ 0) × (a ≡ 0) × (z ≡ pos t)

@@ -1,14 +1,12 @@
 -- Decimal numbers read as they were written.
-use Rattle.std.proofs.Common.{◌≡◌, ◌≢◌, ℕ, zero, suc, ◌+◌, ◌-◌, ◌*◌, ◌/◌, ◌%◌, ◌^◌, ◌<◌, ◌≤◌, ◌==◌, ◌&&◌, not, nat_lt, nat_le, nat_eq, List, [], ◌∷◌, ◌++◌, length, take, drop, codes, decimal, get_or, Option, Some, None, option_map, Bool, true, false, refl, sym, ◌∙◌, ap, arith, length-append, ℤ, pos, negsuc, neg_ℤ, if◌then◌else◌}
-use Rattle.std.specs.Fmt.{signed_decimal}
+use Rattle.std.proofs.Common.{◌≡◌, ◌≢◌, ℕ, zero, suc, ◌+◌, ◌-◌, ◌*◌, ◌/◌, ◌%◌, ◌^◌, ◌<◌, ◌≤◌, ◌==◌, ◌&&◌, nat_lt, nat_eq, List, [], ◌∷◌, ◌++◌, length, codes, decimal, get_or, Option, Some, None, option_map, Bool, true, false, refl, sym, ◌∙◌, ap, arith, length-append, if◌then◌else◌}
 use Rattle.std.specs.List.{list_all, starts_with}
 use Rattle.std.proofs.lemmas.Bool.Decides.{nat_tests}
 use Rattle.std.proofs.lemmas.Fmt.{decimal_by_steps}
 use Rattle.std.proofs.lemmas.List.Folds.{list_all-append}
-use Rattle.mck_word.specs.Numbers.{digits, from_digit, number_of}
-use Rattle.guest_asm.specs.declared.numbers.Number.{Number}
+use Rattle.mck_word.specs.Numbers.{digits, number_of}
 use Rattle.guest_asm.specs.Lines.{is_digit}
-use Rattle.guest_asm.specs.Numbers.{size_of, literal_of, from_zero, below_zero}
+use Rattle.guest_asm.specs.Numbers.{literal_of, from_zero, below_zero}
 
 unpacked : (b c e : Bool) (x : Option ℕ) (m : ℕ) → (if b then None else (if c then None else (if e then x else None))) ≡ Some m → (b ≡ false) × (c ≡ false) × (e ≡ true) × (x ≡ Some m)
 unpacked true c e x m h = cc
@@ -60,8 +58,11 @@ one_digit n h small =
     let e : 0 * 10 + (48 + n - 48) ≡ n = omega arith in
     record {
       value = digit_taken 0 (48 + n) [] (omega arith) (omega arith) (omega arith) ∙ ap (λ x. Some x) e;
-      some = omega arith; one = λ i. refl; lead = λ i k. omega arith;
-      plain = ap (λ b. b && true) (a_digit (48 + n) (omega arith) (omega arith)); }
+      some = omega arith;
+      one = λ i. refl;
+      lead = λ i k. omega arith;
+      plain = ap (λ b. b && true) (a_digit (48 + n) (omega arith) (omega arith));
+    }
 
 front_same : (ds : List ℕ) (d : ℕ) → 0 < length ds → get_or (ds ++ d ∷ []) 0 0 ≡ get_or ds 0 0
 front_same [] d h = absurd (omega arith)
@@ -80,7 +81,8 @@ more_digits n ds h front small =
       some = omega (arith, length-append ds ((48 + n % 10) ∷ []));
       one = λ i. absurd (omega arith);
       lead = λ i k. f.lead (omega arith) (sym (front_same ds (48 + n % 10) f.some) ∙ k);
-      plain = list_all-append is_digit ds ((48 + n % 10) ∷ []) ∙ both_true (list_all is_digit ds) (list_all is_digit ((48 + n % 10) ∷ [])) f.plain (ap (λ b. b && true) (a_digit (48 + n % 10) (omega arith) (omega arith))); }
+      plain = list_all-append is_digit ds ((48 + n % 10) ∷ []) ∙ both_true (list_all is_digit ds) (list_all is_digit ((48 + n % 10) ∷ [])) f.plain (ap (λ b. b && true) (a_digit (48 + n % 10) (omega arith) (omega arith)));
+    }
 
 pub decimal_is : (n : ℕ) → n < 2 ^ 64 → IsDecimal n (decimal n)
 decimal_is n small = decimal_by_steps (λ m ds. m < 2 ^ 64 → IsDecimal m ds) one_digit more_digits n small small

@@ -4,6 +4,7 @@ pub mod Counting
 pub mod Cuts
 pub mod Decimals
 pub mod LabelMaps
+pub mod ListedTexts
 pub mod NameFacts
 pub mod Pieces
 pub mod Texts

@@ -1,12 +1,11 @@
 -- The names of the instructions, one by one.
-use Rattle.std.proofs.Common.{◌≡◌, ℕ, ◌==◌, ◌||◌, ◌&&◌, not, List, Option, Some, Bool, true, false, codes, bytes_eq, length, nat_lt, refl}
+use Rattle.std.proofs.Common.{◌≡◌, ℕ, ◌==◌, not, List, Some, Bool, true, false, codes, bytes_eq, length, nat_lt, refl}
 use Rattle.std.proofs.lemmas.Bool.{false≢true}
 use Rattle.std.specs.List.{list_all}
 use Rattle.isa_model.specs.Decode.{is_r, is_s, is_b, is_u, is_j}
 use Rattle.isa_model.specs.Table.{row_of}
 use Rattle.isa_model.specs.declared.names.Op.{Op}
 use Rattle.isa_model.specs.declared.names.Op.TheVariants.{Lui, Auipc, Jal, Jalr, Beq, Bne, Blt, Bge, Bltu, Bgeu, Lb, Lh, Lw, Ld, Lbu, Lhu, Lwu, Sb, Sh, Sw, Sd, Addi, Slti, Sltiu, Xori, Ori, Andi, Slli, Srli, Srai, Addiw, Slliw, Srliw, Sraiw, Add, Sub, Sll, Slt, Sltu, Xor, Srl, Sra, Or, And, Addw, Subw, Sllw, Srlw, Sraw, Fence, Ecall, Ebreak}
-use Rattle.guest_asm.specs.declared.layout.Layout.{Layout}
 use Rattle.guest_asm.specs.declared.layout.Layout.TheVariants as layout
 use Rattle.guest_asm.specs.Names.{name_of, named, layout_of}
 

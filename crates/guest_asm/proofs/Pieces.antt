@@ -1,16 +1,16 @@
 -- Pieces of a line.
-use Rattle.std.proofs.Common.{◌≡◌, ◌≢◌, ℕ, zero, suc, ◌+◌, ◌-◌, ◌*◌, ◌^◌, ◌<◌, ◌≤◌, ◌==◌, ◌&&◌, ◌||◌, not, nat_lt, nat_le, List, [], ◌∷◌, ◌++◌, length, take, decimal, get_or, slice_index, Option, Some, None, option_map, Bool, true, false, refl, sym, ◌∙◌, ap, subst, arith, length-append, ℤ, pos, negsuc, neg_ℤ, if◌then◌else◌}
+use Rattle.std.proofs.Common.{◌≡◌, ◌≢◌, ℕ, zero, suc, ◌-◌, ◌^◌, ◌<◌, ◌≤◌, ◌==◌, ◌&&◌, not, nat_lt, List, [], ◌∷◌, ◌++◌, length, take, decimal, get_or, slice_index, Some, None, option_map, Bool, true, false, refl, ◌∙◌, ap, arith, length-append, ℤ, pos, negsuc, neg_ℤ, if◌then◌else◌}
 use Rattle.std.specs.Fmt.{signed_decimal}
 use Rattle.std.proofs.Math.Seq.{get_or-append_seam, take-append_seam}
 use Rattle.std.specs.List.{list_all}
 use Rattle.std.proofs.lemmas.Bool.Decides.{nat_tests}
 use Rattle.std.proofs.lemmas.List.Folds.{list_all-append}
 use Rattle.guest_asm.specs.declared.numbers.Number.{Number}
-use Rattle.guest_asm.specs.Lines.{cut, is_digit, is_letter, is_label, ends_in, but_last, last_byte, in_brackets, place_of, number_target}
-use Rattle.guest_asm.specs.Listing.{register_text, place_text, two, three}
+use Rattle.guest_asm.specs.Lines.{cut, is_digit, is_letter, is_label, ends_in, but_last, last_byte, in_brackets, place_of}
+use Rattle.guest_asm.specs.Listing.{register_text, place_text}
 use Rattle.guest_asm.specs.Names.{register_of, below_32}
 use Rattle.guest_asm.specs.Numbers.{◌>>=◌, literal_of, immediate_of, from_zero, below_zero}
-use Rattle.guest_asm.proofs.Cuts.{further, cut_none}
+use Rattle.guest_asm.proofs.Cuts.{further}
 use Rattle.guest_asm.proofs.Decimals.{decimal_is, number_decimal, literal_decimal, literal_minus, both_true, first_digit, later_digits}
 use Rattle.guest_asm.proofs.NameFacts.{lacks}
 
@@ -37,7 +37,7 @@ register_lacks c n h k small = lacks-cons c 120 (decimal n) k (decimal_lacks c n
 
 -- ---- cuts
 
-split_lack : (c b : ℕ) (bs : List ℕ) → lacks c (b ∷ bs) ≡ true → (not (b == c) ≡ true) × (lacks c bs ≡ true)
+pub split_lack : (c b : ℕ) (bs : List ℕ) → lacks c (b ∷ bs) ≡ true → (not (b == c) ≡ true) × (lacks c bs ≡ true)
 split_lack c b bs h = split (not (b == c)) (lacks c bs) h where
   split : (x y : Bool) → (x && y) ≡ true → (x ≡ true) × (y ≡ true)
   split true y h = (refl, h)
