@@ -50,6 +50,12 @@ use Rattle.worked_rows.specs.Checks.{first_wrong, stall_is_shown}
 use Rattle.worked_rows.specs.Images.{small_image, small_job}
 
 """
+BOOK_USES = """use Rattle.ikc_ring.specs.declared.Call.{Call}
+use Rattle.mck_word.specs.Maps.{Map}
+use Rattle.request_book.specs.declared.ReqState.{ReqState}
+use Rattle.std.specs.Prelude.{List, ℕ}
+
+"""
 ROOT = """//! The worked rows.
 #![tactic(auto)]
 
@@ -90,9 +96,13 @@ def make_workspace(top):
             shutil.rmtree(top / "crates" / crate / part, ignore_errors=True)
         (top / "crates" / crate / "specs").mkdir()
         (top / "crates" / crate / "specs" / "Lib.antt").write_text("")
+    book = re.search(r"pub record Requests .*?\n\n", (TOP / "crates/request_book/specs/Requests.antt").read_text(), re.S).group(0)
+    specs = top / "crates" / "request_book" / "specs"
+    (specs / "Requests.antt").write_text(BOOK_USES + book.replace("Live", "Map (ReqState × Call)"))
+    (specs / "Lib.antt").write_text("pub mod Requests\n")
     wanted = set(CRATES)
     lines = [l for l in (TOP / "crates.txt").read_text().splitlines() if l.split(":")[0] in wanted and l.split(":")[0] not in CONTAINERS]
-    lines += [f"{c}: mck_word mck_flags" for c in CONTAINERS]
+    lines += [f"{c}: mck_word mck_flags" + (" ikc_ring" if c == "request_book" else "") for c in CONTAINERS]
     lines.append("worked_rows: " + " ".join(CRATES))
     (top / "crates.txt").write_text("\n".join(lines) + "\n")
     shutil.copy(TOP / "HANDLES", top / "HANDLES")

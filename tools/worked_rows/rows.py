@@ -328,7 +328,7 @@ ROWS["InterruptedAnswer"] = row
 WRONG = {
     "stale mirror row": ("hybrid_model", "Linux", "mirror = keep l.mirror (λ page. not (in_range r page))", "mirror = l.mirror", "RightTaken"),
     "early acknowledgement": ("hybrid_model", "Linux", "clear_in (Some (Taken, r)) l = no_pin_in r l.pins", "clear_in (Some (Taken, r)) l = true", "PinHolds"),
-    "early free": ("hybrid_model", "Lwk", "changing = Some t };\n  round", "changing = Some t; table = keep s.lwk.table (λ page. not (in_range range page)) };\n  round", "ThreeRounds"),
+    "early free": ("hybrid_model", "Lwk", "changing = Some t }", "changing = Some t; table = no_rows }", "ThreeRounds"),
     "answer in a closing range": ("hybrid_model", "Lwk", "noted_may_be_answered o (Some n) = not (closes o n.0)", "noted_may_be_answered o (Some n) = true", "AnswerInClosingRange"),
     "interrupt after bytes moved": ("kernel_model", "Progress", "interrupted_answer p = cond (p.moved == 0) (refused EINTR) (pos p.moved)", "interrupted_answer p = refused EINTR", "InterruptedAnswer"),
 }

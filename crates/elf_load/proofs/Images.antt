@@ -11,7 +11,8 @@ use Rattle.job_model.specs.declared.image.Segment.{Segment}
 use Rattle.elf_load.specs.declared.fault.ElfFault.{ElfFault}
 use Rattle.elf_load.specs.declared.placed.Placed.{Placed}
 use Rattle.elf_load.specs.Profile.{shares_page, or_overlap, apart, segment_from, is_entry, rights_of, has_entry}
-use Rattle.elf_load.specs.Kept.{AreRights, IsInside, IsSegment, SharesNoPage, AreApart, RunsAt, AreBytes}
+use Rattle.elf_load.specs.Kept.{IsInside, AreApart, AreBytes}
+use Rattle.job_model.specs.Images.{AreRights, IsSegment, SharesNoPage, RunsAt}
 
 rights_kept_at : (read : Bool) (write exec : ℕ) → write < 2 → exec < 2 → (write ≡ 1 → read ≡ true) → AreRights (record { 0 = (if read then 1 else 0) + 2 * write + 4 * exec })
 rights_kept_at true zero zero w e h = record { known = omega arith; readable = λ t. refl }

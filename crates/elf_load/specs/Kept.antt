@@ -1,16 +1,12 @@
--- What is kept of segments that passed their rules, and of each image.
+-- What is kept of segments that passed their rules, and which images some file loads to.
 use Rattle.std.specs.Prelude.{◌≡◌, ℕ, ◌+◌, ◌-◌, ◌/◌, ◌%◌, ◌^◌, ◌<◌, ◌≤◌, List, length, false, IsTrue, All, AllPairs, Any, Ok}
 use Rattle.mck_flags.specs.Rights.{includes}
 use Rattle.mck_flags.specs.declared.rights.Rights.{Rights}
 use Rattle.job_model.specs.declared.image.Segment.{Segment}
 use Rattle.job_model.specs.declared.image.Image.{Image}
-use Rattle.elf_load.specs.Profile.{lowest, highest, shares_page, image_of}
+use Rattle.elf_load.specs.Profile.{shares_page, image_of}
+use Rattle.job_model.specs.Images.{AreRights, lowest, highest}
 use Rattle.elf_load.specs.declared.placed.Placed.{Placed}
-
--- no unknown right, and what may be written may be read
-pub record AreRights (rights : Rights) : Type 0 where
-  pub known : rights.0 < 8
-  pub readable : IsTrue (includes rights 2) → IsTrue (includes rights 1)
 
 pub record IsInside (size : ℕ) (s : Placed) : Type 0 where
   pub part : 0 < s.len → s.offset + s.len ≤ size
@@ -22,31 +18,6 @@ pub record IsInside (size : ℕ) (s : Placed) : Type 0 where
 
 abbrev pub AreApart : List Placed → Type 0
 AreApart placed = AllPairs (λ s t. shares_page s t ≡ false) placed
-
--- ---- images
-
-pub record IsSegment (s : Segment) : Type 0 where
-  pub low : lowest ≤ s.addr
-  pub range : s.addr + s.mem ≤ highest
-  pub some : 0 < s.mem
-  pub whole : length s.bytes ≤ s.mem
-  pub rights : AreRights s.rights
-
--- two segments share no page: where the later one doesn't begin behind the earlier one's last page, it ends before its first
-abbrev pub SharesNoPage : Segment → Segment → Type 0
-SharesNoPage s t = t.addr / 4096 ≤ (s.addr + s.mem - 1) / 4096 → (t.addr + t.mem - 1) / 4096 < s.addr / 4096
-
--- an address in a segment that may be executed
-abbrev pub RunsAt : ℕ → Segment → Type 0
-RunsAt entry s = IsTrue (includes s.rights 4) × (s.addr ≤ entry) × (entry < s.addr + s.mem)
-
-pub record IsImage (image : Image) : Type 0 where
-  pub headers : image.phnum ≤ 64
-  pub counted : length image.segments ≤ image.phnum
-  pub kept : All IsSegment image.segments
-  pub apart : AllPairs SharesNoPage image.segments
-  pub aligned : image.entry % 4 ≡ 0
-  pub entry : Any (RunsAt image.entry) image.segments
 
 -- ---- files
 

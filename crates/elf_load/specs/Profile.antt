@@ -1,4 +1,5 @@
 -- The profile of images (ELF-64 for RISC-V, static, as this project takes it): the image that bytes have, or the first broken rule.
+use Rattle.job_model.specs.Images.{lowest, highest}
 use Rattle.std.specs.Prelude.{◌≡◌, ℕ, zero, suc, ◌+◌, ◌-◌, ◌*◌, ◌/◌, ◌%◌, ◌&&◌, ◌||◌, ◌==◌, not, nat_lt, nat_le, List, [], ◌∷◌, ◌++◌, length, take, drop, find, map, Bool, Option, Some, None, Result, Ok, Err, slice_index, if◌then◌else◌}
 use Rattle.std.specs.List.{list_any}
 use Rattle.std.specs.Option.{option_to_list}
@@ -57,13 +58,6 @@ header_of bytes =
     else Ok (record { entry = field 8 24 bytes; place = field 8 32 bytes; count = field 2 56 bytes }))))))))
 
 -- ---- the program headers
-
--- a segment may lie from here up to there
-abbrev pub lowest : ℕ
-lowest = 0x10000
-
-abbrev pub highest : ℕ
-highest = 0x3000000000
 
 -- the rights of p_flags (execute 1, write 2, read 4); what may be written may be read
 abbrev pub rights_of : ℕ → Rights

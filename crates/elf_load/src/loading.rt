@@ -2,7 +2,8 @@
 ghost use Rattle.std.specs.Prelude.{◌≡◌, ◌≤◌, ◌<◌, ◌+◌, ◌*◌, ◌==◌, ◌&&◌, ◌%◌, IfOk, OnOk, map, All, length, find, List, [], take, drop};
 ghost use Rattle.std.specs.List.{list_any};
 ghost use Rattle.std.specs.Option.{option_copied};
-ghost use Rattle.elf_load.specs.Kept.{IsInside, AreApart, IsImage, IsSegment, IsLoaded};
+ghost use Rattle.elf_load.specs.Kept.{IsInside, AreApart, IsLoaded};
+ghost use Rattle.job_model.specs.Images.{IsImage, IsSegment};
 ghost use Rattle.elf_load.specs.Profile.{apart, image_of, Gives, LoadGives, last_page, shares_page, is_entry, has_entry, holds_headers, headers_at, header_end, segment_from};
 
 use crate::fault::{ElfError, ElfFault};

@@ -4,7 +4,7 @@ use Rattle.file_model.specs.declared.descriptions.Target.{Target}
 use Rattle.file_model.specs.declared.descriptions.Target.TheVariants.{OfNode, ReadEnd, WriteEnd, OfConsole}
 use Rattle.mck_word.specs.Lists.{lowest_not_in}
 use Rattle.mck_word.specs.Maps.{Map, at, put, cut, change, collect, keys, no_rows, some_row, total}
-use Rattle.std.specs.Prelude.{ℕ, ◌+◌, ◌-◌, Bool, true, false, cond, ◌||◌, ◌==◌, List, [], length, is_some, nat_lt, unwrap_or, Option, Some, None}
+use Rattle.std.specs.Prelude.{ℕ, ◌+◌, ◌-◌, Bool, true, false, cond, ◌||◌, ◌==◌, List, [], length, is_some, nat_lt, unwrap_or, Option, Some, None, ℤ, pos, negsuc}
 
 abbrev pub Name : Type 0
 Name = List ℕ
@@ -34,14 +34,19 @@ pub record Files : Type 0 where
 
 abbrev pub most_descriptors : ℕ
 most_descriptors = 64
+
 abbrev pub most_nodes : ℕ
 most_nodes = 1_024
+
 abbrev pub most_file_bytes : ℕ
 most_file_bytes = 1_048_576
+
 abbrev pub most_bytes_of_all_files : ℕ
 most_bytes_of_all_files = 67_108_864
+
 abbrev pub most_console_bytes : ℕ
 most_console_bytes = 1_048_576
+
 abbrev pub most_pipe_bytes : ℕ
 most_pipe_bytes = 65_536
 
@@ -55,7 +60,13 @@ empty_directory parent name = record { parent = parent; name = name; directory =
 
 abbrev pub root_only : Files
 root_only = record {
-  nodes = put no_rows root (empty_directory root None); next_node = 2; pipes = no_rows; descriptions = no_rows; descriptors = no_rows; consoles = no_rows }
+  nodes = put no_rows root (empty_directory root None);
+  next_node = 2;
+  pipes = no_rows;
+  descriptions = no_rows;
+  descriptors = no_rows;
+  consoles = no_rows;
+}
 
 -- ---- looking up
 
@@ -83,6 +94,11 @@ descriptors_of files process = unwrap_or (at files.descriptors process) no_rows
 -- the number of the description that a descriptor of the process names
 abbrev pub named_by : Files → ℕ → ℕ → Option ℕ
 named_by files process fd = at (descriptors_of files process) fd
+
+-- the same at a descriptor as a call gives it, which may be negative
+abbrev pub described : Files → ℕ → ℤ → Option ℕ
+described files process (negsuc n) = None
+described files process (pos fd) = named_by files process fd
 
 -- the least number that is no key
 abbrev pub lowest_free : {V : Type 0} → Map V → ℕ
@@ -132,33 +148,35 @@ set_console guest c files = record files { consoles = put files.consoles guest c
 -- a new description of the target under its lowest free number, and under the lowest free descriptor of the process
 abbrev pub opened : ℕ → Target → Bool → Bool → Bool → Files → Files
 opened process target readable writable append files =
-  let d = lowest_free files.descriptions in
-  let fds = descriptors_of files process in
-  record files {
-    descriptions = put files.descriptions d (record { target = target; readable = readable; writable = writable; append = append; offset = 0; calls = 0 });
-    descriptors = put files.descriptors process (put fds (lowest_free fds) d) }
+    let d = lowest_free files.descriptions in
+    let fds = descriptors_of files process in
+    record files {
+      descriptions = put files.descriptions d (record { target = target; readable = readable; writable = writable; append = append; offset = 0; calls = 0 });
+      descriptors = put files.descriptors process (put fds (lowest_free fds) d);
+    }
 
 -- a new node without bytes, with a name in a directory; its number was never used
 abbrev pub made : ℕ → Name → Bool → Files → Files
 made parent name directory files = record files {
   nodes = put files.nodes files.next_node (record { parent = parent; name = Some name; directory = directory; bytes = [] });
-  next_node = files.next_node + 1 }
+  next_node = files.next_node + 1;
+}
 
 -- ---- what nobody names any more goes
 
 abbrev pub is_named : Files → ℕ → Bool
 is_named files d = some_row (λ process (fds : Map ℕ). some_row (λ fd named. named == d) fds) files.descriptors
 
-abbrev used_description : Files → ℕ → Description → Option Description
+abbrev pub used_description : Files → ℕ → Description → Option Description
 used_description files d x = cond (nat_lt 0 x.calls || is_named files d) (Some x) None
 
 abbrev pub without_unused_descriptions : Files → Files
 without_unused_descriptions files = record files { descriptions = collect (used_description files) files.descriptions }
 
-abbrev used_node : Files → ℕ → Inode → Option Inode
+abbrev pub used_node : Files → ℕ → Inode → Option Inode
 used_node files n x = cond (n == root || is_some x.name || is_open files (OfNode n)) (Some x) None
 
-abbrev used_pipe : Files → ℕ → List ℕ → Option (List ℕ)
+abbrev pub used_pipe : Files → ℕ → List ℕ → Option (List ℕ)
 used_pipe files p bytes = cond (is_open files (ReadEnd p) || is_open files (WriteEnd p)) (Some bytes) None
 
 abbrev pub without_unused_targets : Files → Files
@@ -189,5 +207,5 @@ share parent child files = record files { descriptors = put files.descriptors ch
 -- a guest's console with that input, and the descriptors 0, 1 and 2 on it
 abbrev pub with_console : ℕ → List ℕ → Files → Files
 with_console guest input files =
-  opened guest (OfConsole guest) false true false (opened guest (OfConsole guest) false true false (opened guest (OfConsole guest) true false false
+    opened guest (OfConsole guest) false true false (opened guest (OfConsole guest) false true false (opened guest (OfConsole guest) true false false
     (set_console guest (record { input = input; output = [] }) files)))

@@ -1,6 +1,6 @@
 -- Paths: their names, where they lead in the tree, and the path of a node (man-pages path_resolution; the order of errors is this project's own).
 use Rattle.file_model.specs.Errno.{ENOENT, EBADF, ENOTDIR, ENAMETOOLONG}
-use Rattle.file_model.specs.Files.{Files, Inode, Name, description_of, made, named_by, node_of, root, set_bytes}
+use Rattle.file_model.specs.Files.{Files, Inode, Name, described, description_of, made, node_of, root, set_bytes}
 use Rattle.file_model.specs.declared.descriptions.Target.{Target}
 use Rattle.file_model.specs.declared.descriptions.Target.TheVariants.{OfNode, ReadEnd, WriteEnd, OfConsole}
 use Rattle.mck_word.specs.Lists.{sorted_by}
@@ -58,7 +58,7 @@ stands_as directory name x = x.parent == directory && is_named_as name x.name
 abbrev pub child : Files → ℕ → Name → Option ℕ
 child files directory name = option_map (λ (e : ℕ × Inode). e.0) (find (λ (e : ℕ × Inode). stands_as directory name e.1) (entries files.nodes))
 
-abbrev name_in : ℕ → ℕ × Inode → Option Name
+abbrev pub name_in : ℕ → ℕ × Inode → Option Name
 name_in directory e = cond (e.1.parent == directory) e.1.name None
 
 -- the names in a directory, in the order of bytes
@@ -66,7 +66,7 @@ abbrev pub names_in : Files → ℕ → List Name
 names_in files directory = sorted_by bytes_before (filter_map (name_in directory) (entries files.nodes))
 
 -- the path of a node in at most so many names: a slash before each, and nothing for the root
-abbrev below : List ℕ → Option Name → List ℕ
+abbrev pub below : List ℕ → Option Name → List ℕ
 below path None = []
 below path (Some name) = path ++ (slash ∷ name)
 
@@ -89,12 +89,13 @@ pub data Place : Type 0 where
 abbrev pub walk_names : Files → ℕ → List Name → Place
 walk_names files here [] = Present here
 walk_names files here (name ∷ rest) =
-  cond (nat_lt 255 (length name)) (NoPlace ENAMETOOLONG)
-  (cond (not (node_of files here).directory) (NoPlace ENOTDIR)
-  (cond (bytes_eq name dot_dot) (walk_names files (node_of files here).parent rest)
-  (elim (child files here name) [
-  | None ↦ cond (length rest == 0) (Absent here name) (NoPlace ENOENT)
-  | Some n ↦ walk_names files n rest ])))
+    cond (nat_lt 255 (length name)) (NoPlace ENAMETOOLONG)
+    (cond (not (node_of files here).directory) (NoPlace ENOTDIR)
+    (cond (bytes_eq name dot_dot) (walk_names files (node_of files here).parent rest)
+    (elim (child files here name) [
+      | None ↦ cond (length rest == 0) (Absent here name) (NoPlace ENOENT)
+      | Some n ↦ walk_names files n rest
+    ])))
 
 -- where a relative path starts
 pub data Start : Type 0 where
@@ -105,20 +106,24 @@ abbrev pub is_unlinked : ℕ → Option Name → Bool
 is_unlinked n None = not (n == root)
 is_unlinked n (Some name) = false
 
-abbrev start_at_node : Files → ℕ → Start
+abbrev pub start_at_node : Files → ℕ → Start
 start_at_node files n = let x = node_of files n in
-  cond (not x.directory) (NoStart ENOTDIR) (cond (is_unlinked n x.name) (NoStart ENOENT) (StartAt n))
+    cond (not x.directory) (NoStart ENOTDIR) (cond (is_unlinked n x.name) (NoStart ENOENT) (StartAt n))
 
-abbrev start_at_target : Files → Target → Start
+abbrev pub start_at_target : Files → Target → Start
 start_at_target files (OfNode n) = start_at_node files n
 start_at_target files (ReadEnd n) = NoStart ENOTDIR
 start_at_target files (WriteEnd n) = NoStart ENOTDIR
 start_at_target files (OfConsole n) = NoStart ENOTDIR
 
 -- the descriptor -100 stands for the root
-abbrev start_at_descriptor : Files → ℕ → ℤ → Start
-start_at_descriptor files process (pos fd) = elim (named_by files process fd) [ None ↦ NoStart EBADF | Some d ↦ start_at_target files (description_of files d).target ]
-start_at_descriptor files process (negsuc n) = cond (n == 99) (StartAt root) (NoStart EBADF)
+abbrev pub stands_for_root : ℤ → Bool
+stands_for_root (pos fd) = false
+stands_for_root (negsuc n) = n == 99
+
+abbrev pub start_at_descriptor : Files → ℕ → ℤ → Start
+start_at_descriptor files process fd = cond (stands_for_root fd) (StartAt root)
+    (elim (described files process fd) [ None ↦ NoStart EBADF | Some d ↦ start_at_target files (description_of files d).target ])
 
 abbrev pub start_of : Files → ℕ → ℤ → List ℕ → Start
 start_of files process dirfd text = cond (is_absolute text) (StartAt root) (start_at_descriptor files process dirfd)
@@ -127,10 +132,11 @@ start_of files process dirfd text = cond (is_absolute text) (StartAt root) (star
 abbrev pub place_of_names : Files → ℕ → ℤ → List ℕ → List Name → Place
 place_of_names files process dirfd text names = elim (start_of files process dirfd text) [
   | NoStart errno ↦ NoPlace errno
-  | StartAt n ↦ cond (length text == 0) (NoPlace ENOENT) (walk_names files n (without_dots names)) ]
+  | StartAt n ↦ cond (length text == 0) (NoPlace ENOENT) (walk_names files n (without_dots names))
+]
 
 -- a final slash on a file is an error
-abbrev checked_slash : Files → List ℕ → Place → Place
+abbrev pub checked_slash : Files → List ℕ → Place → Place
 checked_slash files text (Present n) = cond (ends_with_slash text && not (node_of files n).directory) (NoPlace ENOTDIR) (Present n)
 checked_slash files text (Absent directory name) = Absent directory name
 checked_slash files text (NoPlace errno) = NoPlace errno
@@ -146,7 +152,8 @@ add_file here [] bytes files = files
 add_file here (name ∷ []) bytes files = set_bytes files.next_node bytes (made here name false files)
 add_file here (name ∷ next ∷ names) bytes files = elim (child files here name) [
   | None ↦ add_file files.next_node (next ∷ names) bytes (made here name true files)
-  | Some n ↦ add_file n (next ∷ names) bytes files ]
+  | Some n ↦ add_file n (next ∷ names) bytes files
+]
 
 abbrev pub with_file : List ℕ → List ℕ → Files → Files
 with_file path bytes files = add_file root (names_of path) bytes files

@@ -8,19 +8,60 @@ use mck_word::Bytes;
 /// their streams, `moved` are the bytes that the call has moved before, and `len` is the length of the piece, in bytes.
 #[derive(Clone, Copy, PartialEq, Eq, Debug)]
 pub enum FileOp {
-    Openat { dirfd: i32, flags: u32 },
-    Mkdirat { dirfd: i32 },
-    Unlinkat { dirfd: i32, flags: u32 },
-    Close { fd: i32 },
-    Lseek { fd: i32, offset: i64, whence: i32 },
-    Ioctl { fd: i32 },
-    Pipe2 { flags: u32 },
-    Fstat { fd: i32 },
-    Getdents { fd: i32, most: u64 },
-    Read { fd: i32, at: Option<i64>, count: i32 },
-    Write { fd: i32, at: Option<i64>, count: i32 },
-    Get { desc: u32, at: Option<u64>, moved: u32, len: u32 },
-    Put { desc: u32, at: Option<u64>, moved: u32, len: u32 },
+    Openat {
+        dirfd: i32,
+        flags: u32,
+    },
+    Mkdirat {
+        dirfd: i32,
+    },
+    Unlinkat {
+        dirfd: i32,
+        flags: u32,
+    },
+    Close {
+        fd: i32,
+    },
+    Lseek {
+        fd: i32,
+        offset: i64,
+        whence: i32,
+    },
+    Ioctl {
+        fd: i32,
+    },
+    Pipe2 {
+        flags: u32,
+    },
+    Fstat {
+        fd: i32,
+    },
+    Getdents {
+        fd: i32,
+        most: u64,
+    },
+    Read {
+        fd: i32,
+        at: Option<i64>,
+        count: i32,
+    },
+    Write {
+        fd: i32,
+        at: Option<i64>,
+        count: i32,
+    },
+    Get {
+        desc: u32,
+        at: Option<u64>,
+        moved: u32,
+        len: u32,
+    },
+    Put {
+        desc: u32,
+        at: Option<u64>,
+        moved: u32,
+        len: u32,
+    },
     Leave(u32),
 }
 

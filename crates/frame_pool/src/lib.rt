@@ -8,7 +8,7 @@ mod marks;
 
 ghost use Rattle.frame_pool.specs.Pools.{Pool};
 ghost use Rattle.mck_word.specs.Lists.{count_from, insert_by, member, tail};
-ghost use Rattle.std.specs.Prelude.{◌≡◌, ◌<◌, length, nat_lt, slice_get, option_map, false, IfOk};
+ghost use Rattle.std.specs.Prelude.{◌≡◌, ◌<◌, length, nat_lt, slice_get, option_map, false, IfOk, IfSome};
 
 use marks::{lowest, mark};
 use mck_word::{Frame, NoMemory};
@@ -67,6 +67,7 @@ impl FramePool {
     pub fn take(&mut self) -> Option<Frame>
         ensures lowest { option_map (λ f. f.0) result ≡ slice_get self.old.free 0 }
         ensures rest { self.new ≡ record self.old { free = tail self.old.free } }
+        ensures below { IfSome result (λ f. f.0 < self.old.frames) }
     {
         if !self.nodes[1] {
             return None;

@@ -53,8 +53,11 @@ may-ack-clear h q e = go h.side.round refl e
     go None f u = absurd (grind (arith, u))
     go (Some (RoundPosted, range)) f u = absurd (grind (arith, u))
     go (Some (Acked, range)) f u = absurd (grind (arith, u))
-    go (Some (Taken, range)) f u = record { range = range; round = f;
-      no_pin = λ w x g. not-true (in_range range x.page) (in-entries (λ (y : Pin). not (in_range range y.page)) (entries h.side.linux.pins) w x u (sym (get-entries h.side.linux.pins w) ∙ g)) }
+    go (Some (Taken, range)) f u = record {
+      range = range;
+      round = f;
+      no_pin = λ w x g. not-true (in_range range x.page) (in-entries (λ (y : Pin). not (in_range range y.page)) (entries h.side.linux.pins) w x u (sym (get-entries h.side.linux.pins w) ∙ g));
+    }
 
 module _ (range : PageRange) (mirror : Reads Row) (pins : Reads Pin) (begun cleared : ℕ) (rings : List (List Msg)) (bs : List Msg) (no_pin : (w : ℕ) (x : Pin) → pins w ≡ Some x → in_range range x.page ≡ false) where
   no-clears : (m : Msg) → clears m ≡ 0 → ClearIsOf (Some (Taken, range)) m → ClearIsOf (Some (Acked, range)) m
@@ -84,30 +87,46 @@ module _ (range : PageRange) (mirror : Reads Row) (pins : Reads Pin) (begun clea
     fetched = c.fetched;
     outside = EachRing-map (IsOutside (Some (Taken, range)) begun) (IsOutside (Some (Acked, range)) begun) rings stays-outside c.outside;
     mirror_outside = c.mirror_outside;
-    pins_outside = no_pin }
+    pins_outside = no_pin;
+  }
 
 module _ (p : ℕ) (h : Here) (ring_number : ℕ → ℕ) (k : OfProcess p h.side h.node h.workers ring_number) (q : Pid) (e : may_here (Events.AckClear q) h ≡ true) where
   pub keeps_ack_clear : OfProcess p (after_here (Events.AckClear q) p h).side (after_here (Events.AckClear q) p h).node h.workers ring_number
   unfolding ack_clear
   keeps_ack_clear =
-    let m = may-ack-clear h q e in
-    let b = m.round in
-    let rounded = rw b at k.rounded in
-    let i = rings-back (at h.side.book.rows) h.side.book.next (at h.node.threads) ring_number (at h.side.lwk.callers) (at h.side.linux.services) h.side.to_linux h.side.to_lwk (in_rings k) Ack refl in
-    let s = k.served in
-    record {
-      covered = k.covered;
-      rounded = rw b (rounded_ack m.range (at h.side.linux.mirror) (at h.side.linux.pins) h.side.lwk.begun h.side.linux.cleared h.side.to_linux h.side.to_lwk m.no_pin rounded);
-      owned = rw b (owned-in (process_of h.node p) (at h.node.threads) p h.side.lwk.changing h.side.round Taken Acked m.range b k.owned);
-      served = record { worker_below = s.worker_below; requests = s.requests; waits = s.waits; known = s.known; workers_hold = s.workers_hold; held_by = s.held_by;
-        faults = λ w. omega (arith, tally-push (faults_of w) h.side.to_lwk Ack, s.faults w);
-        fault_for = Each-push (FaultIsFor (at h.side.linux.workers) (at h.side.linux.services)) h.side.to_lwk Ack s.fault_for tt;
-        noted_for = s.noted_for; answer_for = s.answer_for; pins_serve = s.pins_serve };
-      answered = Answered-back (at h.side.book.rows) (at h.side.lwk.callers) h.side.book.next h.side.to_lwk Ack (λ x. refl) tt k.answered;
-      calls = k.calls; asked = i.asked; interrupts = i.interrupts; directions = i.directions; messages = i.messages; marked = i.marked }
+      let m = may-ack-clear h q e in
+      let b = m.round in
+      let rounded = rw b at k.rounded in
+      let i = rings-back (at h.side.book.rows) h.side.book.next (at h.node.threads) ring_number (at h.side.lwk.callers) (at h.side.linux.services) h.side.to_linux h.side.to_lwk (in_rings k) Ack refl in
+      let s = k.served in
+      record {
+        covered = k.covered;
+        rounded = rw b (rounded_ack m.range (at h.side.linux.mirror) (at h.side.linux.pins) h.side.lwk.begun h.side.linux.cleared h.side.to_linux h.side.to_lwk m.no_pin rounded);
+        owned = rw b (owned-in (process_of h.node p) (at h.node.threads) p h.side.lwk.changing h.side.round Taken Acked m.range b k.owned);
+        served = record {
+          worker_below = s.worker_below;
+          requests = s.requests;
+          waits = s.waits;
+          known = s.known;
+          workers_hold = s.workers_hold;
+          held_by = s.held_by;
+          faults = λ w. omega (arith, tally-push (faults_of w) h.side.to_lwk Ack, s.faults w);
+          fault_for = Each-push (FaultIsFor (at h.side.linux.workers) (at h.side.linux.services)) h.side.to_lwk Ack s.fault_for tt;
+          noted_for = s.noted_for;
+          answer_for = s.answer_for;
+          pins_serve = s.pins_serve;
+        };
+        answered = Answered-back (at h.side.book.rows) (at h.side.lwk.callers) h.side.book.next h.side.to_lwk Ack (λ x. refl) tt k.answered;
+        calls = k.calls;
+        asked = i.asked;
+        interrupts = i.interrupts;
+        directions = i.directions;
+        messages = i.messages;
+        marked = i.marked;
+      }
 
 pub simulates_ack_clear : (p : ℕ) (h : Here) (q : Pid) → Simulated (Events.AckClear q) p h
 unfolding ack_clear
 simulates_ack_clear p h q = simulated-none (Events.AckClear q) p h refl
-  (shown-silent h.frames h (record h.side { round = with_phase h.side.round Acked; to_lwk = h.side.to_lwk ++ Ack ∷ [] }) h.turns refl refl
+    (shown-silent h.frames h (record h.side { round = with_phase h.side.round Acked; to_lwk = h.side.to_lwk ++ Ack ∷ [] }) h.turns refl refl
     (λ x. ap (status_in (state_in (at h.side.book.rows x)) (call_in (at h.side.book.rows x)) (service_of h.side.linux.services x) (has_empty (at h.side.linux.workers) x h.side.to_linux)) (code-other x h.side.to_lwk Ack (λ rest. refl))))

@@ -32,6 +32,7 @@ waiting-first rows q rest h = go (rows q) refl
   where
     waits : is_waiting (state_at rows q) ≡ 1
     waits = grind (arith, nat_tests, h q)
+
     by_state : (s : ReqState) (c : Call) → rows q ≡ Some (s, c) → (call : Call) × (rows q ≡ Some (Waiting, call))
     by_state Waiting c e = (c, e)
     by_state Posted c e = absurd (let k = rw e at waits in grind (arith, k))
@@ -40,6 +41,7 @@ waiting-first rows q rest h = go (rows q) refl
     by_state Faulted c e = absurd (let k = rw e at waits in grind (arith, k))
     by_state Ended c e = absurd (let k = rw e at waits in grind (arith, k))
     by_state Replied c e = absurd (let k = rw e at waits in grind (arith, k))
+
     go : (o : Option (ReqState × Call)) → rows q ≡ o → (call : Call) × (rows q ≡ Some (Waiting, call))
     go None e = absurd (let k = rw e at waits in grind (arith, k))
     go (Some r) e = by_state r.0 r.1 e
@@ -70,8 +72,8 @@ module _ (worker_count : ℕ) (workers : Reads ℕ) (rows : Reads (ReqState × C
     noted_for = noted-keep workers workers' services services' others noted c.noted_for;
     answer_for = answers-keep workers workers' services services' others rings c.answer_for;
     pins_serve = λ v x e.
-      let k = c.pins_serve v x e in
-      PinServes-keeps workers workers' rows rows' services services' v x k (grind (arith, nat_tests, k.serves, idle)) (grind (arith, nat_tests, is, k.not_faulted)) (λ u. (grind (arith, nat_tests, is, k.held u), grind (arith, nat_tests)));
+        let k = c.pins_serve v x e in
+        PinServes-keeps workers workers' rows rows' services services' v x k (grind (arith, nat_tests, k.serves, idle)) (grind (arith, nat_tests, is, k.not_faulted)) (λ u. (grind (arith, nat_tests, is, k.held u), grind (arith, nat_tests)));
   }
 
 -- ---- the whole process
@@ -79,13 +81,13 @@ module _ (p : ℕ) (side : Side) (node : Node) (worker_count : ℕ) (ring_of : �
   with_first : (q : ℕ) (rest : List ℕ) → side.book.waiting ≡ q ∷ rest → OfProcess p (record side { linux = (assign side.linux side.book w).0; book = (assign side.linux side.book w).1 }) node worker_count ring_of
   unfolding assign
   with_first q rest e =
-    let s = rw e at h.served in
-    let f = waiting-first (at side.book.rows) q rest s.waits in
-    let k = record (service_of side.linux.services q) { worker = w } in
-    let a = reads-put side.linux.workers w q in
-    let d = reads-put side.linux.services q k in
-    let linux : LinuxSide = record side.linux { workers = put side.linux.workers w q; services = put side.linux.services q k } in
-    rw e (goes_on p side node worker_count ring_of h q Waiting Held f.0 f.1 refl refl refl refl linux rest (λ x. rw d (with-interrupted side.linux.services q w x)) h.covered h.rounded
+      let s = rw e at h.served in
+      let f = waiting-first (at side.book.rows) q rest s.waits in
+      let k = record (service_of side.linux.services q) { worker = w } in
+      let a = reads-put side.linux.workers w q in
+      let d = reads-put side.linux.services q k in
+      let linux : LinuxSide = record side.linux { workers = put side.linux.workers w q; services = put side.linux.services q k } in
+      rw e (goes_on p side node worker_count ring_of h q Waiting Held f.0 f.1 refl refl refl refl linux rest (λ x. rw d (with-interrupted side.linux.services q w x)) h.covered h.rounded
       (rw (a, d) (served_assign worker_count (at side.linux.workers) (at side.book.rows) (at side.linux.services) (at side.linux.pins) q w below rest (at side.lwk.noted) side.to_linux side.to_lwk s idle f.0 f.1)))
     where
       with-interrupted : (services : Map Service) (q w x : ℕ) → (service_at (with_at (at services) q (Some (record (service_of services q) { worker = w }))) x).interrupted ≡ (service_at (at services) x).interrupted
@@ -103,8 +105,8 @@ module _ (workers : Reads ℕ) (rows : Reads (ReqState × Call)) (services : Rea
   status-assign rings bs x = go (x == q) refl
     where
       go : (b : Bool) → (x == q) ≡ b
-        → status_in (state_in (if b then Some (Held, call) else rows x)) (call_in (if b then Some (Held, call) else rows x)) (unwrap_or (if b then Some (record (service_at services q) { worker = w }) else services x) no_service) (has_empty (with_at workers w (Some q)) x rings) (reply_code x bs)
-        ≡ status_by rows services workers rings bs x
+          → status_in (state_in (if b then Some (Held, call) else rows x)) (call_in (if b then Some (Held, call) else rows x)) (unwrap_or (if b then Some (record (service_at services q) { worker = w }) else services x) no_service) (has_empty (with_at workers w (Some q)) x rings) (reply_code x bs)
+          ≡ status_by rows services workers rings bs x
       go true e = let g : x ≡ q = grind (arith, nat_tests, e) in rw (g, is) refl
       go false e = ap (λ b. status_in (state_in (rows x)) (call_in (rows x)) (unwrap_or (services x) no_service) b (reply_code x bs)) (has_empty-same workers (with_at workers w (Some q)) x (serves-same x e) rings)
 
@@ -139,9 +141,9 @@ module _ (p : ℕ) (h : Here) (ring_number : ℕ → ℕ) (k : OfProcess p h.sid
 
   pub shows_assign : shown_here (after_here (Events.Assign q w) p h) ≡ shown_here h
   shows_assign =
-    let m = may-assign h q w e in
-    let s = image_assign h w m.idle k.served.waits m.waits in
-    λ i. record { own = s i; node = h.node; free = length h.free; born = shown_born h.frames h.born }
+      let m = may-assign h q w e in
+      let s = image_assign h w m.idle k.served.waits m.waits in
+      λ i. record { own = s i; node = h.node; free = length h.free; born = shown_born h.frames h.born }
 
   pub simulates_assign : Simulated (Events.Assign q w) p h
   simulates_assign = simulated-none (Events.Assign q w) p h refl shows_assign

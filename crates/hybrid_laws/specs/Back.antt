@@ -20,9 +20,12 @@ module _ (rows : Reads (ReqState × Call)) (callers : Reads Caller) (next : ℕ)
   Answered-back c = record {
     awaited = Each-push (ReplyIsAwaited rows callers) bs m c.awaited awaited;
     calls = λ t x e. let k = c.calls t x e in record { given = k.given; named = k.named; replied = λ u. same-count x.request ∙ k.replied u };
-    alone = c.alone; live = c.live;
+    alone = c.alone;
+    live = c.live;
     replies = λ q. omega (arith, same-count q, c.replies q);
-    fresh = c.fresh; not_replied = c.not_replied }
+    fresh = c.fresh;
+    not_replied = c.not_replied;
+  }
 
 pub Rounded-back : (round : Option Round) (mirror : Reads Row) (pins : Reads Pin) (begun cleared : ℕ) (rings : List (List Msg)) (bs : List Msg) (m : Msg) → acks m ≡ 0 → Rounded round mirror pins begun cleared rings bs → Rounded round mirror pins begun cleared rings (bs ++ m ∷ [])
 Rounded-back round mirror pins begun cleared rings bs m n c = record { clears_are = c.clears_are; acks_are = omega (arith, tally-push acks bs m, n, c.acks_are); clear_of = c.clear_of; fetched = c.fetched; outside = c.outside; mirror_outside = c.mirror_outside; pins_outside = c.pins_outside }

@@ -4,17 +4,17 @@ use Rattle.hybrid_laws.specs.HeldStep.{held-row, served_step, state-facts}
 use Rattle.hybrid_laws.specs.OneRequest.{goes_on, files-any}
 use Rattle.hybrid_laws.specs.Reading.{reads-put}
 use Rattle.hybrid_laws.specs.Tests.{both, not-true}
+use Rattle.hybrid_model.specs.Claims.{Reaches}
 use Rattle.hybrid_model.specs.Coherence.{OfProcess, Covers, PinServes, acked_at, is_faulted, service_at}
 use Rattle.hybrid_model.specs.Events.{after_here, copy, may_here}
 use Rattle.hybrid_model.specs.Linux.{copied, stepped_book, stepped_service, state_if, holds, is_uncopied, kind_for, may_copy, moved_by}
 use Rattle.hybrid_model.specs.Pairs.{Here}
-use Rattle.hybrid_model.specs.Sides.{Side, Service, service_of, LinuxSide, Row, pin_of, served}
+use Rattle.hybrid_model.specs.Sides.{Side, Service, service_of, LinuxSide, pin_of}
 use Rattle.hybrid_model.specs.Spaces.{frame_bytes}
 use Rattle.hybrid_model.specs.Tallies.{Reads, with_at}
 use Rattle.ikc_ring.specs.declared.Call.{Call}
-use Rattle.isa_model.specs.Memory.{allows}
 use Rattle.kernel_model.specs.Nodes.{Node}
-use Rattle.kernel_model.specs.Progress.{After, is_ready, needed_access, next_piece}
+use Rattle.kernel_model.specs.Progress.{After, is_ready, needed_access}
 use Rattle.mck_word.specs.Maps.{at, put}
 use Rattle.mck_word.specs.declared.Pid.{Pid}
 use Rattle.page_pins.specs.declared.Pin.{Pin}
@@ -42,30 +42,31 @@ module _ (p : ℕ) (side : Side) (node : Node) (worker_count : ℕ) (ring_of : �
   pub keeps_copied : OfProcess p (record side { linux = copied side.linux w a; book = stepped_book side.linux side.book w a }) node worker_count ring_of
   unfolding copied
   keeps_copied =
-    let q = serving.number in
-    let call = held.0 in
-    let is = held.1 in
-    let now = state_if a.ended in
-    let k = stepped_service (service_of side.linux.services q) a in
-    let f = state-facts a.ended w in
-    let d = reads-put side.linux.services q k in
-    let e = reads-put side.linux.pins w (record x { copied = true }) in
-    let linux : LinuxSide = record side.linux { services = put side.linux.services q k; pins = put side.linux.pins w (record x { copied = true }) } in
-    rw (serving.serves, there) (goes_on p side node worker_count ring_of h q Held now call is refl f.5 refl f.0 linux side.book.waiting (λ y. rw d (same-interrupted (at side.linux.services) q y))
+      let q = serving.number in
+      let call = held.0 in
+      let is = held.1 in
+      let now = state_if a.ended in
+      let k = stepped_service (service_of side.linux.services q) a in
+      let f = state-facts a.ended w in
+      let d = reads-put side.linux.services q k in
+      let e = reads-put side.linux.pins w (record x { copied = true }) in
+      let linux : LinuxSide = record side.linux { services = put side.linux.services q k; pins = put side.linux.pins w (record x { copied = true }) } in
+      rw (serving.serves, there) (goes_on p side node worker_count ring_of h q Held now call is refl f.5 refl f.0 linux side.book.waiting (λ y. rw d (same-interrupted (at side.linux.services) q y))
       (rw e (record { mirror_rows = h.covered.mirror_rows; answers = h.covered.answers; not_ahead = h.covered.not_ahead; pin_rows = λ v y u. from-old (v == w) v y refl u }))
       (rw e (record { clears_are = h.rounded.clears_are; acks_are = h.rounded.acks_are; clear_of = h.rounded.clear_of; fetched = h.rounded.fetched; outside = h.rounded.outside; mirror_outside = h.rounded.mirror_outside; pins_outside = λ v y u. outside-old (v == w) v y u }))
       (rw (d, e) (served_step worker_count (at side.linux.workers) (at side.book.rows) (at side.linux.services) (at side.linux.pins) side.book.waiting (at side.lwk.noted) side.to_linux side.to_lwk h.served w q call serving.serves is (with_at (at side.linux.pins) w (Some (record x { copied = true })))
-        (λ v n. grind (arith, nat_tests, n)) now k f.0 f.1 f.2 f.3 f.4 refl (own-pin q call now k f.2 serving.serves))))
+      (λ v n. grind (arith, nat_tests, n)) now k f.0 f.1 f.2 f.3 f.4 refl (own-pin q call now k f.2 serving.serves))))
     where
       own-pin : (q : ℕ) (call : Call) (now : ReqState) (k : Service) → is_faulted now ≡ 0 → at side.linux.workers w ≡ Some q → (y : Pin) → with_at (at side.linux.pins) w (Some (record x { copied = true })) w ≡ Some y
-        → PinServes (at side.linux.workers) (with_at (at side.book.rows) q (Some (now, call))) (with_at (at side.linux.services) q (Some k)) w y
+          → PinServes (at side.linux.workers) (with_at (at side.book.rows) q (Some (now, call))) (with_at (at side.linux.services) q (Some k)) w y
       own-pin q call now k n s y e =
-        let z : (w == w) ≡ true = grind (arith, nat_tests) in
-        let u = rw z at e in
-        let g : record x { copied = true } ≡ y = cc in
-        let b : (q == q) ≡ true = grind (arith, nat_tests) in
-        subst (λ (j : Pin). PinServes (at side.linux.workers) (with_at (at side.book.rows) q (Some (now, call))) (with_at (at side.linux.services) q (Some k)) w j) g
+          let z : (w == w) ≡ true = grind (arith, nat_tests) in
+          let u = rw z at e in
+          let g : record x { copied = true } ≡ y = cc in
+          let b : (q == q) ≡ true = grind (arith, nat_tests) in
+          subst (λ (j : Pin). PinServes (at side.linux.workers) (with_at (at side.book.rows) q (Some (now, call))) (with_at (at side.linux.services) q (Some k)) w j) g
           (record { number = q; serves = s; not_faulted = rw b n; held = λ a. absurd (grind (arith, a)); left = λ a. absurd (grind (arith, a)); page_is = λ a. absurd (grind (arith, a)); right = λ a. absurd (grind (arith, a)) })
+
       same-interrupted : (services : Reads Service) (q : ℕ) (y : ℕ) → (service_at (with_at services q (Some (stepped_service (service_at services q) a))) y).interrupted ≡ (service_at services y).interrupted
       same-interrupted services q y = grind (arith, nat_tests)
 
@@ -93,17 +94,11 @@ module _ (p : ℕ) (h : Here) (ring_number : ℕ → ℕ) (k : OfProcess p h.sid
   pub keeps_copy : OfProcess p (after_here (Events.Copy q w) p h).side (after_here (Events.Copy q w) p h).node h.workers ring_number
   unfolding copy
   keeps_copy =
-    let m = may-copy h q w e in
-    let a = (moved_by p h.side.linux h.node.files w (frame_bytes h.frames (pin_of h.side.linux w).frame.0)).after in
-    files-any p (record h.side { linux = copied h.side.linux w a; book = stepped_book h.side.linux h.side.book w a }) h.node h.workers ring_number a.files (keeps_copied p h.side h.node h.workers ring_number k w m.pin m.there m.fresh a)
+      let m = may-copy h q w e in
+      let a = (moved_by p h.side.linux h.node.files w (frame_bytes h.frames (pin_of h.side.linux w).frame.0)).after in
+      files-any p (record h.side { linux = copied h.side.linux w a; book = stepped_book h.side.linux h.side.book w a }) h.node h.workers ring_number a.files (keeps_copied p h.side h.node h.workers ring_number k w m.pin m.there m.fresh a)
 
--- The copy reaches the frame that the process's table gives to the page of the piece, with the right that it needs.
-pub record Reaches (s : Side) (w : ℕ) : Type 0 where
-  pub row : Row
-  pub there : at s.lwk.table (next_piece (served s.linux w).progress).page ≡ Some row
-  pub frame : row.0 ≡ (pin_of s.linux w).frame
-  pub right : allows (needed_access (served s.linux w).progress) row.1 ≡ true
-
+-- the copy reaches the frame that the process's table gives to the page of the piece, with the right that it needs
 pub reaches_copy : (p : ℕ) (h : Here) (ring_number : ℕ → ℕ) → OfProcess p h.side h.node h.workers ring_number → (q : Pid) (w : ℕ) → may_here (Events.Copy q w) h ≡ true → Reaches h.side w
 reaches_copy p h ring_number k q w e =
     let m = may-copy h q w e in
@@ -111,7 +106,9 @@ reaches_copy p h ring_number k q w e =
     let v = k.covered.pin_rows w m.pin m.there in
     let n = s.serves in
     let x = m.there in
-    record { row = v.row;
+    record {
+      row = v.row;
       there = rw n (ap (at h.side.lwk.table) (s.page_is m.fresh) ∙ v.there);
       frame = rw x v.frame;
-      right = rw n (v.rights (needed_access (service_of h.side.linux.services s.number).progress) (s.right m.fresh)) }
+      right = rw n (v.rights (needed_access (service_of h.side.linux.services s.number).progress) (s.right m.fresh));
+    }

@@ -37,20 +37,21 @@ shown-after p h w y n f =
     let m = move_piece k.progress h.node.files p (frame_bytes h.frames f) in
     let side : Side = record h.side {
       linux = record h.side.linux { services = put h.side.linux.services n (stepped_service k m.after); pins = put h.side.linux.pins w (record y { copied = true }) };
-      book = with_state h.side.book n (state_if m.after.ended) } in
+      book = with_state h.side.book n (state_if m.after.ended);
+    } in
     record {
       own = record { memory = shown_memory h.side.lwk.table (put h.frames f m.page); calls = each (shown_call side) h.side.lwk.callers };
       node = record h.node { files = m.after.files };
       free = length h.free;
-      born = None }
+      born = None;
+    }
 
 pub copy-shown : (p : ℕ) (h : Here) (w : ℕ) (y : Pin) (n : ℕ) → at h.side.linux.pins w ≡ Some y → at h.side.linux.workers w ≡ Some n → h.born ≡ None → shown_here (copy p w h) ≡ shown-after p h w y n y.frame.0
 unfolding copy moved_by copied
 copy-shown p h w y n e f none = rw (e, f, none) refl
 
-
 module _ (p : ℕ) (h : Here) (ring_number : ℕ → ℕ) (k : OfProcess p h.side h.node h.workers ring_number) (q : Pid) (w : ℕ) (may : may_here (Events.Copy q w) h ≡ true)
-  (apart : (i j : ℕ) (r t : Row) → at h.side.lwk.table i ≡ Some r → at h.side.lwk.table j ≡ Some t → r.0.0 ≡ t.0.0 → i ≡ j) where
+    (apart : (i j : ℕ) (r t : Row) → at h.side.lwk.table i ≡ Some r → at h.side.lwk.table j ≡ Some t → r.0.0 ≡ t.0.0 → i ≡ j) where
   abbrev m : MayCopy h w
   m = may-copy h q w may
 
@@ -80,8 +81,10 @@ module _ (p : ℕ) (h : Here) (ring_number : ℕ → ℕ) (k : OfProcess p h.sid
   services' = put h.side.linux.services n (stepped_service before moved.after)
 
   abbrev side' : Side
-  side' = record h.side { linux = record h.side.linux { services = services'; pins = put h.side.linux.pins w (record m.pin { copied = true }) };
-    book = with_state h.side.book n (state_if moved.after.ended) }
+  side' = record h.side {
+    linux = record h.side.linux { services = services'; pins = put h.side.linux.pins w (record m.pin { copied = true }) };
+    book = with_state h.side.book n (state_if moved.after.ended);
+  }
 
   page-there : at h.side.lwk.table (next_piece before.progress).page ≡ Some v.row
   page-there = ap (at h.side.lwk.table) (s.page_is m.fresh) ∙ v.there
@@ -109,23 +112,25 @@ module _ (p : ℕ) (h : Here) (ring_number : ℕ → ℕ) (k : OfProcess p h.sid
 
   calls-now : put (each (shown_call h.side) h.side.lwk.callers) call.tid.0 (record { marked = caller.marked; status = status_after moved.after }) ≡ each (shown_call side') h.side.lwk.callers
   calls-now = calls-after p h.side h.node h.workers ring_number k n Held call row-held.1 refl side' (status_after moved.after)
-    (status-own h.side n Held (state_if moved.after.ended) call row-held.1 h.side.linux.mirror (put h.side.linux.pins w (record m.pin { copied = true })) h.side.linux.workers services' h.side.linux.cleared h.side.book.waiting
-        (stepped_service before moved.after) (put-own h.side.linux.services n (stepped_service before moved.after))
+      (status-own h.side n Held (state_if moved.after.ended) call row-held.1 h.side.linux.mirror (put h.side.linux.pins w (record m.pin { copied = true })) h.side.linux.workers services' h.side.linux.cleared h.side.book.waiting
+      (stepped_service before moved.after) (put-own h.side.linux.services n (stepped_service before moved.after))
       ∙ status-if moved.after call before (has_empty (at h.side.linux.workers) n h.side.to_linux) (reply_code n h.side.to_lwk))
-    (status-others h.side n Held (state_if moved.after.ended) call row-held.1 h.side.linux.mirror (put h.side.linux.pins w (record m.pin { copied = true })) h.side.linux.workers services' h.side.linux.cleared h.side.book.waiting
+      (status-others h.side n Held (state_if moved.after.ended) call row-held.1 h.side.linux.mirror (put h.side.linux.pins w (record m.pin { copied = true })) h.side.linux.workers services' h.side.linux.cleared h.side.book.waiting
       (put-other h.side.linux.services n (stepped_service before moved.after)) (λ x f y. refl))
 
   step-after : OneSteps.after_here (Steps.Piece call.tid) p (shown_here h) ≡ record (shown_here h) {
-      own = record { memory = shown_memory h.side.lwk.table (put h.frames v.row.0.0 moved.page); calls = each (shown_call side') h.side.lwk.callers };
-      node = record h.node { files = moved.after.files } }
+    own = record { memory = shown_memory h.side.lwk.table (put h.frames v.row.0.0 moved.page); calls = each (shown_call side') h.side.lwk.callers };
+    node = record h.node { files = moved.after.files };
+  }
   unfolding one_piece
   step-after = rw (call-is, shown-page-at) (λ i. record {
-      own = record { memory = rows-after i; calls = calls-now i };
-      node = record h.node { files = moved.after.files };
-      free = length h.free;
-      born = shown_born h.frames h.born })
+    own = record { memory = rows-after i; calls = calls-now i };
+    node = record h.node { files = moved.after.files };
+    free = length h.free;
+    born = shown_born h.frames h.born;
+  })
 
   pub simulates_copy : h.born ≡ None → Simulated (Events.Copy q w) p h
   simulates_copy none = simulated-one (Events.Copy q w) p h (Steps.Piece call.tid)
-    (ap (λ x. one_step (Steps.Piece (tid x))) (thread-served-is h.side w n Held call s.serves row-held.1)) step-may
-    (step-after ∙ (λ i. record (shown-after p h w m.pin n (v.frame i).0) { born = ap (shown_born h.frames) none i }) ∙ sym (copy-shown p h w m.pin n m.there s.serves none))
+      (ap (λ x. one_step (Steps.Piece (tid x))) (thread-served-is h.side w n Held call s.serves row-held.1)) step-may
+      (step-after ∙ (λ i. record (shown-after p h w m.pin n (v.frame i).0) { born = ap (shown_born h.frames) none i }) ∙ sym (copy-shown p h w m.pin n m.there s.serves none))

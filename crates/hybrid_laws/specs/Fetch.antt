@@ -45,14 +45,14 @@ module _ (p : ℕ) (h : Here) (ring_number : ℕ → ℕ) (k : OfProcess p h.sid
   shows_first Ack ms first e = absurd (grind (arith, e))
   shows_first (Fault w i a) ms first e = absurd (grind (arith, e))
 
-  goes : (m : Msg) (ms : List Msg) → ring r h.side.to_linux ≡ m ∷ ms → goes_to_linux m ≡ true
+  pub goes : (m : Msg) (ms : List Msg) → ring r h.side.to_linux ≡ m ∷ ms → goes_to_linux m ≡ true
   goes m ms first = first-of (λ x. goes_to_linux x ≡ true) r m ms h.side.to_linux first k.directions.to_linux
 
-  keeps_any : (xs : List Msg) → ring r h.side.to_linux ≡ xs → Kept xs
+  pub keeps_any : (xs : List Msg) → ring r h.side.to_linux ≡ xs → Kept xs
   keeps_any [] e = k
   keeps_any (m ∷ ms) e = keeps_first m ms e (goes m ms e)
 
-  shows_any : (xs : List Msg) → ring r h.side.to_linux ≡ xs → shown_here (fetch_from r xs h) ≡ shown_here h
+  pub shows_any : (xs : List Msg) → ring r h.side.to_linux ≡ xs → shown_here (fetch_from r xs h) ≡ shown_here h
   shows_any [] e = refl
   shows_any (m ∷ ms) e = shows_first m ms e (goes m ms e)
 

@@ -30,6 +30,7 @@ faulted-row rows q f = go (rows q) refl
     by_state Parked c e = absurd (let k = rw e at f in grind (arith, k))
     by_state Ended c e = absurd (let k = rw e at f in grind (arith, k))
     by_state Replied c e = absurd (let k = rw e at f in grind (arith, k))
+
     go : (o : Option (ReqState × Call)) → rows q ≡ o → (call : Call) × (rows q ≡ Some (Faulted, call))
     go None e = absurd (let k = rw e at f in grind (arith, k))
     go (Some r) e = by_state r.0 r.1 e
@@ -44,14 +45,16 @@ module _ (worker_count : ℕ) (workers : Reads ℕ) (rows : Reads (ReqState × C
     where
       t : sum_rings (answers_to w) rings ≡ if_same w w + sum_rings (answers_to w) rings'
       t = sum-take (answers_to w) r (Answer w i n o) ms rings first
+
       go : (x : Option ℕ) → workers w ≡ x → (q : ℕ) × (call : Call) × (workers w ≡ Some q) × (rows q ≡ Some (Faulted, call))
       go None e = absurd (grind (arith, nat_tests, t, c.faults w, e))
       go (Some q) e =
-        let f : is_faulted (state_at rows q) ≡ 1 = at_most (is_faulted-most (state_at rows q)) (grind (arith, nat_tests, t, c.faults w, e)) in
-        let k = faulted-row rows q f in (q, k.0, e, k.1)
+          let f : is_faulted (state_at rows q) ≡ 1 = at_most (is_faulted-most (state_at rows q)) (grind (arith, nat_tests, t, c.faults w, e)) in
+          let k = faulted-row rows q f in (q, k.0, e, k.1)
         where
           at_most : {a : ℕ} → a ≤ 1 → 1 ≤ a → a ≡ 1
           at_most h k = omega (arith, h, k)
+
           is_faulted-most : (s : ReqState) → is_faulted s ≤ 1
           is_faulted-most Faulted = omega arith
           is_faulted-most Posted = omega arith
@@ -62,8 +65,8 @@ module _ (worker_count : ℕ) (workers : Reads ℕ) (rows : Reads (ReqState × C
           is_faulted-most Replied = omega arith
 
   module _ (q : ℕ) (call : Call) (serving : workers w ≡ Some q) (is : rows q ≡ Some (Faulted, call)) (now : ReqState) (services' : Reads Service)
-    (not_posted : is_posted now ≡ 0) (not_waiting : is_waiting now ≡ 0) (not_faulted : is_faulted now ≡ 0) (fetched : is_fetched now ≡ true) (held : (v : ℕ) → holder now v ≡ Some v)
-    (same_progress : (p : ℕ) → (service_at services' p).progress ≡ (service_at services p).progress) (same_worker : (p : ℕ) → (service_at services' p).worker ≡ (service_at services p).worker) (same_known : (p : ℕ) → is_some (services' p) ≡ is_some (services p)) where
+      (not_posted : is_posted now ≡ 0) (not_waiting : is_waiting now ≡ 0) (not_faulted : is_faulted now ≡ 0) (fetched : is_fetched now ≡ true) (held : (v : ℕ) → holder now v ≡ Some v)
+      (same_progress : (p : ℕ) → (service_at services' p).progress ≡ (service_at services p).progress) (same_worker : (p : ℕ) → (service_at services' p).worker ≡ (service_at services p).worker) (same_known : (p : ℕ) → is_some (services' p) ≡ is_some (services p)) where
     abbrev rows' : Reads (ReqState × Call)
     rows' = with_at rows q (Some (now, call))
 
@@ -83,8 +86,8 @@ module _ (worker_count : ℕ) (workers : Reads ℕ) (rows : Reads (ReqState × C
       noted_for = noted-keep workers workers services services' others noted c.noted_for;
       answer_for = answers-keep workers workers services services' others rings' (EachRing-take (AnswerIsFor workers services) r (Answer w i n o) ms rings first c.answer_for);
       pins_serve = λ v x e.
-        let k = c.pins_serve v x e in
-        PinServes-keeps workers workers rows rows' services services' v x k k.serves (grind (arith, nat_tests, is, not_faulted, k.not_faulted)) (λ u. (grind (arith, nat_tests, is, k.held u), same_progress k.number));
+          let k = c.pins_serve v x e in
+          PinServes-keeps workers workers rows rows' services services' v x k k.serves (grind (arith, nat_tests, is, not_faulted, k.not_faulted)) (λ u. (grind (arith, nat_tests, is, k.held u), same_progress k.number));
     }
 
 -- ---- the table and the round
@@ -97,7 +100,8 @@ module _ (round : Option Round) (mirror table : Reads Row) (pins : Reads Pin) (b
     mirror_rows = c.mirror_rows;
     answers = EachRing-take (AnswerCovered table cleared) r (Answer w i n o) ms rings first c.answers;
     not_ahead = EachRing-take (NotAhead begun) r (Answer w i n o) ms rings first c.not_ahead;
-    pin_rows = c.pin_rows }
+    pin_rows = c.pin_rows;
+  }
 
   pub rounded-take : Rounded round mirror pins begun cleared rings bs → Rounded round mirror pins begun cleared left bs
   rounded-take c = record {
@@ -107,7 +111,8 @@ module _ (round : Option Round) (mirror table : Reads Row) (pins : Reads Pin) (b
     fetched = c.fetched;
     outside = EachRing-take (IsOutside round begun) r (Answer w i n o) ms rings first c.outside;
     mirror_outside = c.mirror_outside;
-    pins_outside = c.pins_outside }
+    pins_outside = c.pins_outside;
+  }
 
 -- the row of an answer that is not overtaken lies outside the range of a round that is Taken or Acked
 pub not-taken : (round : Option Round) (begun cleared i n : ℕ) → cleared + posted round ≡ begun → cleared ≤ n → n ≤ begun → (n ≡ begun → closes round i ≡ false) → taken_at round i ≡ false
@@ -128,5 +133,12 @@ module _ (round : Option Round) (mirror table : Reads Row) (pins : Reads Pin) (b
   covered-install c = record { mirror_rows = λ j t k. installed-row (j == i) j t refl k (c.mirror_rows j t); answers = c.answers; not_ahead = c.not_ahead; pin_rows = c.pin_rows }
 
   pub rounded-install : Rounded round mirror pins begun cleared rings bs → Rounded round mirror' pins begun cleared rings bs
-  rounded-install c = record { clears_are = c.clears_are; acks_are = c.acks_are; clear_of = c.clear_of; fetched = c.fetched; outside = c.outside;
-    mirror_outside = λ j k. grind (arith, nat_tests, k, out, c.mirror_outside j); pins_outside = c.pins_outside }
+  rounded-install c = record {
+    clears_are = c.clears_are;
+    acks_are = c.acks_are;
+    clear_of = c.clear_of;
+    fetched = c.fetched;
+    outside = c.outside;
+    mirror_outside = λ j k. grind (arith, nat_tests, k, out, c.mirror_outside j);
+    pins_outside = c.pins_outside;
+  }

@@ -59,7 +59,8 @@ module _ (range : PageRange) (mirror table : Reads Row) (pins : Reads Pin) (begu
     mirror_rows = λ j t e. kept-row (Covers table j t) (outside_it j) (mirror j) t e (c.mirror_rows j t);
     answers = EachRing-map (AnswerCovered table cleared) (AnswerCovered table (cleared + 1)) left later (EachRing-take (AnswerCovered table cleared) r (Clear range) ms rings first c.answers);
     not_ahead = EachRing-take (NotAhead begun) r (Clear range) ms rings first c.not_ahead;
-    pin_rows = c.pin_rows }
+    pin_rows = c.pin_rows;
+  }
 
   no-clear : (m : Msg) → clears m ≡ 0 → ClearIsOf (Some (RoundPosted, range)) m → ClearIsOf (Some (Taken, range)) m
   no-clear (Clear x) e h = absurd (grind (arith, e))
@@ -82,16 +83,17 @@ module _ (range : PageRange) (mirror table : Reads Row) (pins : Reads Pin) (begu
 
   pub rounded_clear : Rounded (Some (RoundPosted, range)) mirror pins begun cleared rings bs → Rounded (Some (Taken, range)) mirror' pins begun (cleared + 1) left bs
   rounded_clear c =
-    let t = sum-take clears r (Clear range) ms rings first in
-    let none : sum_rings clears left ≡ 0 = omega (arith, t, c.clears_are) in
-    record {
-      clears_are = none;
-      acks_are = c.acks_are;
-      clear_of = EachRing-where clears (ClearIsOf (Some (RoundPosted, range))) (ClearIsOf (Some (Taken, range))) left none no-clear (EachRing-take (ClearIsOf (Some (RoundPosted, range))) r (Clear range) ms rings first c.clear_of);
-      fetched = omega (arith, c.fetched);
-      outside = EachRing-map (IsOutside (Some (RoundPosted, range)) begun) (IsOutside (Some (Taken, range)) begun) left still-outside (EachRing-take (IsOutside (Some (RoundPosted, range)) begun) r (Clear range) ms rings first c.outside);
-      mirror_outside = λ page u. grind (arith, nat_tests, u);
-      pins_outside = λ w x e. refl }
+      let t = sum-take clears r (Clear range) ms rings first in
+      let none : sum_rings clears left ≡ 0 = omega (arith, t, c.clears_are) in
+      record {
+        clears_are = none;
+        acks_are = c.acks_are;
+        clear_of = EachRing-where clears (ClearIsOf (Some (RoundPosted, range))) (ClearIsOf (Some (Taken, range))) left none no-clear (EachRing-take (ClearIsOf (Some (RoundPosted, range))) r (Clear range) ms rings first c.clear_of);
+        fetched = omega (arith, c.fetched);
+        outside = EachRing-map (IsOutside (Some (RoundPosted, range)) begun) (IsOutside (Some (Taken, range)) begun) left still-outside (EachRing-take (IsOutside (Some (RoundPosted, range)) begun) r (Clear range) ms rings first c.outside);
+        mirror_outside = λ page u. grind (arith, nat_tests, u);
+        pins_outside = λ w x e. refl;
+      }
 
 -- the change of a round stays in its phases
 owned-phase : (process : Process) (threads : Reads Thread) (p : ℕ) (changing : Option ℕ) (a b : Phase) (range : PageRange) → Owned process threads p (Some (a, range)) changing → Owned process threads p (Some (b, range)) changing
@@ -108,20 +110,27 @@ module _ (p : ℕ) (side : Side) (node : Node) (worker_count : ℕ) (ring_of : �
   pub keeps_fetch_clear : OfProcess p (record side { linux = (fetch_clear range side.linux side.book side.round).linux; book = (fetch_clear range side.linux side.book side.round).book; round = (fetch_clear range side.linux side.book side.round).round; to_linux = with_ring r ms side.to_linux }) node worker_count ring_of
   unfolding fetch_clear
   keeps_fetch_clear =
-    let a = reads-keep side.linux.mirror (λ page. not (in_range range page)) in
-    let b = round-is in
-    let rounded = rw b at h.rounded in
-    let i = rings-take (at side.book.rows) side.book.next (at node.threads) ring_of (at side.lwk.callers) (at side.linux.services) side.to_linux side.to_lwk (in_rings h) r (Clear range) ms first (λ threads k. refl) (λ k. tt) in
-    record {
-      covered = rw a (covered_clear range (at side.linux.mirror) (at side.lwk.table) (at side.linux.pins) side.lwk.begun side.linux.cleared side.to_linux side.to_lwk r ms first h.covered);
-      rounded = rw (a, b) (rounded_clear range (at side.linux.mirror) (at side.lwk.table) (at side.linux.pins) side.lwk.begun side.linux.cleared side.to_linux side.to_lwk r ms first rounded);
-      owned = rw b (owned-in (process_of node p) (at node.threads) p side.lwk.changing side.round RoundPosted Taken range b h.owned);
-      served = taken-served r (Clear range) ms side.to_linux first (λ q. refl) (λ w. refl) worker_count (at side.linux.workers) (at side.book.rows) (at side.linux.services) (at side.linux.pins) side.book.waiting (at side.lwk.noted) side.to_lwk h.served;
-      answered = h.answered; calls = h.calls; asked = i.asked; interrupts = i.interrupts; directions = i.directions; messages = i.messages; marked = i.marked }
+      let a = reads-keep side.linux.mirror (λ page. not (in_range range page)) in
+      let b = round-is in
+      let rounded = rw b at h.rounded in
+      let i = rings-take (at side.book.rows) side.book.next (at node.threads) ring_of (at side.lwk.callers) (at side.linux.services) side.to_linux side.to_lwk (in_rings h) r (Clear range) ms first (λ threads k. refl) (λ k. tt) in
+      record {
+        covered = rw a (covered_clear range (at side.linux.mirror) (at side.lwk.table) (at side.linux.pins) side.lwk.begun side.linux.cleared side.to_linux side.to_lwk r ms first h.covered);
+        rounded = rw (a, b) (rounded_clear range (at side.linux.mirror) (at side.lwk.table) (at side.linux.pins) side.lwk.begun side.linux.cleared side.to_linux side.to_lwk r ms first rounded);
+        owned = rw b (owned-in (process_of node p) (at node.threads) p side.lwk.changing side.round RoundPosted Taken range b h.owned);
+        served = taken-served r (Clear range) ms side.to_linux first (λ q. refl) (λ w. refl) worker_count (at side.linux.workers) (at side.book.rows) (at side.linux.services) (at side.linux.pins) side.book.waiting (at side.lwk.noted) side.to_lwk h.served;
+        answered = h.answered;
+        calls = h.calls;
+        asked = i.asked;
+        interrupts = i.interrupts;
+        directions = i.directions;
+        messages = i.messages;
+        marked = i.marked;
+      }
 
 -- it shows nothing
 pub image_fetch_clear : (h : Here) (r : ℕ) (range : PageRange) (ms : List Msg) → ring r h.side.to_linux ≡ Clear range ∷ ms → shown_here (with_fetched r ms (fetch_clear range h.side.linux h.side.book h.side.round) h) ≡ shown_here h
 unfolding fetch_clear
 image_fetch_clear h r range ms first =
     shown-silent h.frames h (with_fetched r ms (fetch_clear range h.side.linux h.side.book h.side.round) h).side h.turns refl refl
-      (λ x. ap (λ b. status_in (state_in (at h.side.book.rows x)) (call_in (at h.side.book.rows x)) (service_of h.side.linux.services x) b (reply_code x h.side.to_lwk)) (has_empty-take (at h.side.linux.workers) x r (Clear range) ms h.side.to_linux refl first))
+    (λ x. ap (λ b. status_in (state_in (at h.side.book.rows x)) (call_in (at h.side.book.rows x)) (service_of h.side.linux.services x) b (reply_code x h.side.to_lwk)) (has_empty-take (at h.side.linux.workers) x r (Clear range) ms h.side.to_linux refl first))

@@ -63,7 +63,8 @@ module _ (rows : Reads (ReqState × Call)) (threads : Reads Thread) (ring_of : �
   pub Messages-interrupt : (r : ℕ) (ms : List Msg) (rings : List (List Msg)) → ring r rings ≡ Interrupt n place ∷ ms → Messages rows threads ring_of callers rings → Messages rows threads ring_of callers (with_ring r ms rings)
   Messages-interrupt r ms rings first h = record {
     placed = each-taken (Placed rows threads ring_of) (Interrupt n place) (λ j ns x. record { parts = λ k. part-rest (place == k) (of_place threads k ns) (x.parts k); own = x.own.1 }) 0 r ms rings first h.placed;
-    only = each-taken (OnlyOwn rows threads ring_of callers) (Interrupt n place) (λ j ns x t y c a b d u. only-rest c.request (place == y.place) (of_place threads y.place ns) (x t y c a b d u)) 0 r ms rings first h.only }
+    only = each-taken (OnlyOwn rows threads ring_of callers) (Interrupt n place) (λ j ns x t y c a b d u. only-rest c.request (place == y.place) (of_place threads y.place ns) (x t y c a b d u)) 0 r ms rings first h.only;
+  }
 
   -- an Interrupt that stands first is of a request that was fetched
   pub fetched-first : (r : ℕ) (ms : List Msg) (rings : List (List Msg)) → ring r rings ≡ Interrupt n place ∷ ms → Messages rows threads ring_of callers rings → is_posted (state_at rows n.0) ≡ 0
@@ -84,18 +85,21 @@ fetched-state Replied e f = absurd (grind (arith, e))
 
 -- ---- services that move as far, for the same worker
 pub served-services : (worker_count : ℕ) (workers : Reads ℕ) (rows : Reads (ReqState × Call)) (services services' : Reads Service) (pins : Reads Pin) (waiting : List ℕ) (noted : Reads Noted) (rings : List (List Msg)) (bs : List Msg)
-  → ((x : ℕ) → (service_at services' x).progress ≡ (service_at services x).progress) → ((x : ℕ) → (service_at services' x).worker ≡ (service_at services x).worker) → ((x : ℕ) → is_some (services' x) ≡ is_some (services x))
-  → Served worker_count workers rows services pins waiting noted rings bs → Served worker_count workers rows services' pins waiting noted rings bs
+    → ((x : ℕ) → (service_at services' x).progress ≡ (service_at services x).progress) → ((x : ℕ) → (service_at services' x).worker ≡ (service_at services x).worker) → ((x : ℕ) → is_some (services' x) ≡ is_some (services x))
+    → Served worker_count workers rows services pins waiting noted rings bs → Served worker_count workers rows services' pins waiting noted rings bs
 served-services worker_count workers rows services services' pins waiting noted rings bs same_progress same_worker same_known c = record {
-    worker_below = c.worker_below; requests = c.requests; waits = c.waits;
-    known = λ x. c.known x ∙ sym (same_known x);
-    workers_hold = λ v x e. ap (holder (state_at rows x)) (same_worker x) ∙ c.workers_hold v x e;
-    held_by = λ x v e. c.held_by x v (ap (holder (state_at rows x)) (sym (same_worker x)) ∙ e);
-    faults = c.faults;
-    fault_for = faults-keep workers workers services services' others bs c.fault_for;
-    noted_for = noted-keep workers workers services services' others noted c.noted_for;
-    answer_for = answers-keep workers workers services services' others rings c.answer_for;
-    pins_serve = λ v x e. let k = c.pins_serve v x e in PinServes-keeps workers workers rows rows services services' v x k k.serves k.not_faulted (λ u. (refl, same_progress k.number)) }
+  worker_below = c.worker_below;
+  requests = c.requests;
+  waits = c.waits;
+  known = λ x. c.known x ∙ sym (same_known x);
+  workers_hold = λ v x e. ap (holder (state_at rows x)) (same_worker x) ∙ c.workers_hold v x e;
+  held_by = λ x v e. c.held_by x v (ap (holder (state_at rows x)) (sym (same_worker x)) ∙ e);
+  faults = c.faults;
+  fault_for = faults-keep workers workers services services' others bs c.fault_for;
+  noted_for = noted-keep workers workers services services' others noted c.noted_for;
+  answer_for = answers-keep workers workers services services' others rings c.answer_for;
+  pins_serve = λ v x e. let k = c.pins_serve v x e in PinServes-keeps workers workers rows rows services services' v x k k.serves k.not_faulted (λ u. (refl, same_progress k.number));
+}
   where
     others : (v j : ℕ) (a : Access) → IsForNext workers services v j a → IsForNext workers services' v j a
     others v j a k = IsForNext-keeps workers workers services services' v j a k k.serves (same_progress k.number)
@@ -115,19 +119,21 @@ module _ (p : ℕ) (side : Side) (node : Node) (worker_count : ℕ) (ring_of : �
 
   -- the process with the message taken, for services that move as far and are marked where the call is
   with_services : (m : Map Service) → ((x : ℕ) → (service_at (at m) x).progress ≡ (service_at services x).progress) → ((x : ℕ) → (service_at (at m) x).worker ≡ (service_at services x).worker) → ((x : ℕ) → is_some (at m x) ≡ is_some (services x))
-    → Marked (at m) (at side.lwk.callers) left → OfProcess p (record side { linux = record side.linux { services = m }; to_linux = left }) node worker_count ring_of
+      → Marked (at m) (at side.lwk.callers) left → OfProcess p (record side { linux = record side.linux { services = m }; to_linux = left }) node worker_count ring_of
   with_services m f g k marked = record {
     covered = taken-covered r (Interrupt q place) ms side.to_linux first (at side.lwk.table) (at side.linux.mirror) (at side.linux.pins) side.lwk.begun side.linux.cleared h.covered;
     rounded = taken-rounded r (Interrupt q place) ms side.to_linux first refl side.round (at side.linux.mirror) (at side.linux.pins) side.lwk.begun side.linux.cleared side.to_lwk h.rounded;
     owned = h.owned;
     served = served-services worker_count (at side.linux.workers) (at side.book.rows) services (at m) (at side.linux.pins) side.book.waiting (at side.lwk.noted) left side.to_lwk f g k
-      (taken-served r (Interrupt q place) ms side.to_linux first (λ x. refl) (λ w. refl) worker_count (at side.linux.workers) (at side.book.rows) services (at side.linux.pins) side.book.waiting (at side.lwk.noted) side.to_lwk h.served);
-    answered = h.answered; calls = h.calls;
+        (taken-served r (Interrupt q place) ms side.to_linux first (λ x. refl) (λ w. refl) worker_count (at side.linux.workers) (at side.book.rows) services (at side.linux.pins) side.book.waiting (at side.lwk.noted) side.to_lwk h.served);
+    answered = h.answered;
+    calls = h.calls;
     asked = EachRing-take (RequestIs (at side.book.rows)) r (Interrupt q place) ms side.to_linux first h.asked;
     interrupts = EachRing-take (InterruptIs side.book.next (at side.book.rows) (at node.threads)) r (Interrupt q place) ms side.to_linux first h.interrupts;
     directions = directions-take r (Interrupt q place) ms side.to_linux side.to_lwk first h.directions;
     messages = Messages-interrupt (at side.book.rows) (at node.threads) ring_of (at side.lwk.callers) q place r ms side.to_linux first h.messages;
-    marked = marked }
+    marked = marked;
+  }
 
   marked-left : Marked services (at side.lwk.callers) left
   marked-left = Marked-take services (at side.lwk.callers) r (Interrupt q place) ms side.to_linux first h.marked
@@ -135,8 +141,8 @@ module _ (p : ℕ) (side : Side) (node : Node) (worker_count : ℕ) (ring_of : �
   -- the call of an Interrupt under way is marked
   is-marked : (t : ℕ) (c : Caller) → at side.lwk.callers t ≡ Some c → c.request ≡ q.0 → c.marked ≡ true
   is-marked t c e f =
-    let one : if_same q.0 c.request ≡ 1 = grind (arith, nat_tests, f) in
-    go c.marked (omega (arith, sum-take (interrupts_of c.request) r (Interrupt q place) ms side.to_linux first, h.marked.posted t c e, one))
+      let one : if_same q.0 c.request ≡ 1 = grind (arith, nat_tests, f) in
+      go c.marked (omega (arith, sum-take (interrupts_of c.request) r (Interrupt q place) ms side.to_linux first, h.marked.posted t c e, one))
     where
       go : (b : Bool) → 1 ≤ as_number b → b ≡ true
       go true u = refl
@@ -155,14 +161,16 @@ module _ (p : ℕ) (side : Side) (node : Node) (worker_count : ℕ) (ring_of : �
   by_state : (b : Bool) → is_ended_or_replied (state_of side.book q.0) ≡ b → OfProcess p (record side { linux = marked_for_linux b side.linux q.0; to_linux = left }) node worker_count ring_of
   by_state true e = with_services side.linux.services (λ x. refl) (λ x. refl) (λ x. refl) marked-left
   by_state false e =
-    let d = reads-put side.linux.services q.0 new in
-    let k = known-it e in
-    with_services (put side.linux.services q.0 new) (λ x. rw d (same-progress services q.0 x)) (λ x. rw d (same-worker services q.0 x)) (λ x. rw d (same-known services q.0 x k)) (rw d marked-now)
+      let d = reads-put side.linux.services q.0 new in
+      let k = known-it e in
+      with_services (put side.linux.services q.0 new) (λ x. rw d (same-progress services q.0 x)) (λ x. rw d (same-worker services q.0 x)) (λ x. rw d (same-known services q.0 x k)) (rw d marked-now)
     where
       same-progress : (services : Reads Service) (q x : ℕ) → (service_at (with_at services q (Some (record (service_at services q) { interrupted = true }))) x).progress ≡ (service_at services x).progress
       same-progress services q x = grind (arith, nat_tests)
+
       same-worker : (services : Reads Service) (q x : ℕ) → (service_at (with_at services q (Some (record (service_at services q) { interrupted = true }))) x).worker ≡ (service_at services x).worker
       same-worker services q x = grind (arith, nat_tests)
+
       same-known : (services : Reads Service) (q x : ℕ) → is_some (services q) ≡ true → is_some (with_at services q (Some (record (service_at services q) { interrupted = true })) x) ≡ is_some (services x)
       same-known services q x k = grind (arith, nat_tests, k)
 
@@ -177,8 +185,10 @@ module _ (h : Here) (r : ℕ) (q : Req) (place : ℕ) (ms : List Msg) (first : r
     where
       progress : (service_at (with_at (at h.side.linux.services) q.0 (Some (record (service_at (at h.side.linux.services) q.0) { interrupted = true }))) x).progress ≡ (service_at (at h.side.linux.services) x).progress
       progress = grind (arith, nat_tests)
+
       answer : (service_at (with_at (at h.side.linux.services) q.0 (Some (record (service_at (at h.side.linux.services) q.0) { interrupted = true }))) x).answer ≡ (service_at (at h.side.linux.services) x).answer
       answer = grind (arith, nat_tests)
+
       go : (s : ReqState) → status_in s c (service_at (with_at (at h.side.linux.services) q.0 (Some (record (service_at (at h.side.linux.services) q.0) { interrupted = true }))) x) e code ≡ status_in s c (service_at (at h.side.linux.services) x) e code
       go Posted = refl
       go Waiting = ap Active progress
@@ -194,8 +204,8 @@ module _ (h : Here) (r : ℕ) (q : Req) (place : ℕ) (ms : List Msg) (first : r
   statuses : (b : Bool) (x : ℕ) → status_by (at h.side.book.rows) (at (marked_for_linux b h.side.linux q.0).services) (at (marked_for_linux b h.side.linux q.0).workers) (with_ring r ms h.side.to_linux) h.side.to_lwk x ≡ status_of h.side x
   statuses true x = taken-status x
   statuses false x =
-    let d = reads-put h.side.linux.services q.0 (record (service_of h.side.linux.services q.0) { interrupted = true }) in
-    rw d (same-status x (state_in (at h.side.book.rows x)) (call_in (at h.side.book.rows x)) (has_empty (at h.side.linux.workers) x (with_ring r ms h.side.to_linux)) (reply_code x h.side.to_lwk)) ∙ taken-status x
+      let d = reads-put h.side.linux.services q.0 (record (service_of h.side.linux.services q.0) { interrupted = true }) in
+      rw d (same-status x (state_in (at h.side.book.rows x)) (call_in (at h.side.book.rows x)) (has_empty (at h.side.linux.workers) x (with_ring r ms h.side.to_linux)) (reply_code x h.side.to_lwk)) ∙ taken-status x
 
   by_mark : (b : Bool) → shown_here (with_side h (record h.side { linux = marked_for_linux b h.side.linux q.0; to_linux = with_ring r ms h.side.to_linux })) ≡ shown_here h
   by_mark true = shown-silent h.frames h (record h.side { to_linux = with_ring r ms h.side.to_linux }) h.turns refl refl (statuses true)

@@ -54,9 +54,9 @@ module _ (worker_count : ℕ) (workers : Reads ℕ) (rows : Reads (ReqState × C
     noted_for = noted-keep workers workers services services' others noted s.noted_for;
     answer_for = answers-keep workers workers services services' others (with_ring r ms rings) (EachRing-take (AnswerIsFor workers services) r (Request c) ms rings first s.answer_for);
     pins_serve = λ v x e.
-      let z = s.pins_serve v x e in
-      let n = not-served v z.number z.serves in
-      PinServes-keeps workers workers rows rows' services services' v x z z.serves (rw n z.not_faulted) (λ u. (rw n refl, rw n refl));
+        let z = s.pins_serve v x e in
+        let n = not-served v z.number z.serves in
+        PinServes-keeps workers workers rows rows' services services' v x z z.serves (rw n z.not_faulted) (λ u. (rw n refl, rw n refl));
   }
 
   none-left : sum_rings (asks q) (with_ring r ms rings) ≡ 0
@@ -81,7 +81,8 @@ module _ (round : Option Round) (mirror table : Reads Row) (pins : Reads Pin) (b
     mirror_rows = h.mirror_rows;
     answers = EachRing-take (AnswerCovered table cleared) r (Request c) ms rings first h.answers;
     not_ahead = EachRing-take (NotAhead begun) r (Request c) ms rings first h.not_ahead;
-    pin_rows = h.pin_rows }
+    pin_rows = h.pin_rows;
+  }
 
   pub rounded_fetch : Rounded round mirror pins begun cleared rings bs → Rounded round mirror pins begun cleared (with_ring r ms rings) bs
   rounded_fetch h = record {
@@ -90,7 +91,9 @@ module _ (round : Option Round) (mirror table : Reads Row) (pins : Reads Pin) (b
     clear_of = EachRing-take (ClearIsOf round) r (Request c) ms rings first h.clear_of;
     fetched = h.fetched;
     outside = EachRing-take (IsOutside round begun) r (Request c) ms rings first h.outside;
-    mirror_outside = h.mirror_outside; pins_outside = h.pins_outside }
+    mirror_outside = h.mirror_outside;
+    pins_outside = h.pins_outside;
+  }
 
 -- ---- the messages of each place
 take-numbered : (P Q : ℕ → List Msg → Type 0) (m : Msg) (k r : ℕ) (ms : List Msg) (rs : List (List Msg)) → ring r rs ≡ m ∷ ms
@@ -170,10 +173,10 @@ module _ (rows : Reads (ReqState × Call)) (threads : Reads Thread) (ring_of : �
   -- the caller of q is the thread that the call names
   caller-is : (u : ℕ) (d : Caller) → callers u ≡ Some d → d.request ≡ q → c.tid.0 ≡ u
   caller-is u d e f =
-    let k = a.calls u d e in
-    let live : is_live (state_at rows d.request) ≡ true = rw (f, is) refl in
-    let z = k.named live in
-    sym (ap (λ (j : ℕ). tid_in (rows j)) f ∙ ap tid_in is) ∙ z
+      let k = a.calls u d e in
+      let live : is_live (state_at rows d.request) ≡ true = rw (f, is) refl in
+      let z = k.named live in
+      sym (ap (λ (j : ℕ). tid_in (rows j)) f ∙ ap tid_in is) ∙ z
 
   still-unposted : (n : ℕ) → (n == q) ≡ false → is_posted (state_at now n) ≡ 0 → is_posted (state_at rows n) ≡ 0
   still-unposted n e f = rw e at f
@@ -192,15 +195,17 @@ module _ (rows : Reads (ReqState × Call)) (threads : Reads Thread) (ring_of : �
       mine : (b : Bool) → IsPart (state_at rows) (if b then Request c ∷ of_place threads z.place ms else of_place threads z.place ms) → b ≡ true → AtMostInterrupt c.q.0 (of_place threads z.place ms)
       mine true k y = k
       mine false k y = absurd (grind (arith, y))
+
       theirs : (b : Bool) → AtMostInterrupt d.request (if b then Request c ∷ of_place threads z.place ms else of_place threads z.place ms) → AtMostInterrupt d.request (of_place threads z.place ms)
       theirs true k = absurd k
       theirs false k = k
+
       go : (b : Bool) → (d.request == q) ≡ b → AtMostInterrupt d.request (of_place threads z.place ms)
       go true k =
-        let g : d.request ≡ q = grind (arith, nat_tests, k) in
-        let t = caller-is u d f g in
-        let pl : place_in z.place (threads c.tid.0) ≡ true = ap (λ (v : ℕ). place_in z.place (threads v)) t ∙ ap (place_in z.place) e ∙ (let w : (z.place == z.place) ≡ true = grind (arith, nat_tests) in w) in
-        subst (λ (j : ℕ). AtMostInterrupt j (of_place threads z.place ms)) (number ∙ sym g) (mine (place_in z.place (threads c.tid.0)) (parts z.place) pl)
+          let g : d.request ≡ q = grind (arith, nat_tests, k) in
+          let t = caller-is u d f g in
+          let pl : place_in z.place (threads c.tid.0) ≡ true = ap (λ (v : ℕ). place_in z.place (threads v)) t ∙ ap (place_in z.place) e ∙ (let w : (z.place == z.place) ≡ true = grind (arith, nat_tests) in w) in
+          subst (λ (j : ℕ). AtMostInterrupt j (of_place threads z.place ms)) (number ∙ sym g) (mine (place_in z.place (threads c.tid.0)) (parts z.place) pl)
       go false k = theirs (place_in z.place (threads c.tid.0)) (h u z d e f i (still-unposted d.request k s))
 
   both-of : (k : ℕ) (rs : List (List Msg)) → EachNumbered (Placed rows threads ring_of) k rs → EachNumbered (OnlyOwn rows threads ring_of callers) k rs → EachNumbered (λ j ms. Placed rows threads ring_of j ms × OnlyOwn rows threads ring_of callers j ms) k rs
@@ -215,11 +220,12 @@ module _ (rows : Reads (ReqState × Call)) (threads : Reads Thread) (ring_of : �
 
   pub Messages-fetch : (r : ℕ) (ms : List Msg) (rings : List (List Msg)) → ring r rings ≡ Request c ∷ ms → Messages rows threads ring_of callers rings → Messages now threads ring_of callers (with_ring r ms rings)
   Messages-fetch r ms rings first h =
-    let own = own-first 0 r ms rings first h.placed in
-    record {
-      placed = take-numbered (Placed rows threads ring_of) (Placed now threads ring_of) (Request c) 0 r ms rings first (λ j ns n y. placed-now j ns y) (λ y. placed-taken (0 + r) ms y) h.placed;
-      only = take-numbered (λ j ns. Placed rows threads ring_of j ns × OnlyOwn rows threads ring_of callers j ns) (OnlyOwn now threads ring_of callers) (Request c) 0 r ms rings first
-        (λ j ns n y. only-other (0 + r) own j ns n y.1) (λ y. only-taken (0 + r) ms y.0.parts y.1) (both-of 0 rings h.placed h.only) }
+      let own = own-first 0 r ms rings first h.placed in
+      record {
+        placed = take-numbered (Placed rows threads ring_of) (Placed now threads ring_of) (Request c) 0 r ms rings first (λ j ns n y. placed-now j ns y) (λ y. placed-taken (0 + r) ms y) h.placed;
+        only = take-numbered (λ j ns. Placed rows threads ring_of j ns × OnlyOwn rows threads ring_of callers j ns) (OnlyOwn now threads ring_of callers) (Request c) 0 r ms rings first
+            (λ j ns n y. only-other (0 + r) own j ns n y.1) (λ y. only-taken (0 + r) ms y.0.parts y.1) (both-of 0 rings h.placed h.only);
+      }
 
 module _ (p : ℕ) (side : Side) (node : Node) (worker_count : ℕ) (ring_of : ℕ → ℕ) (h : OfProcess p side node worker_count ring_of) (r : ℕ) (c : Call) (ms : List Msg) (first : ring r side.to_linux ≡ Request c ∷ ms) where
   abbrev q : ℕ
@@ -231,21 +237,21 @@ module _ (p : ℕ) (side : Side) (node : Node) (worker_count : ℕ) (ring_of : �
   pub keeps_fetch_request : OfProcess p (record side { linux = (fetch_request c side.linux side.book side.round).linux; book = (fetch_request c side.linux side.book side.round).book; round = (fetch_request c side.linux side.book side.round).round; to_linux = with_ring r ms side.to_linux }) node worker_count ring_of
   unfolding fetch_request
   keeps_fetch_request =
-    let b = reads-stated Waiting q side.book.rows c Posted is in
-    let d = reads-put side.linux.services q (new_service c) in
-    record {
-      covered = covered_fetch side.round (at side.linux.mirror) (at side.lwk.table) (at side.linux.pins) side.lwk.begun side.linux.cleared side.to_linux side.to_lwk r c ms first h.covered;
-      rounded = rounded_fetch side.round (at side.linux.mirror) (at side.lwk.table) (at side.linux.pins) side.lwk.begun side.linux.cleared side.to_linux side.to_lwk r c ms first h.rounded;
-      owned = h.owned;
-      served = rw (b, d) (served_fetch worker_count (at side.linux.workers) (at side.book.rows) (at side.linux.services) (at side.linux.pins) side.book.waiting (at side.lwk.noted) side.to_linux side.to_lwk h.served r q c ms first refl is (new_service c));
-      answered = rw b (Answered-state (at side.book.rows) q Posted Waiting c is refl refl (at side.lwk.callers) side.book.next side.to_lwk h.answered);
-      calls = h.calls;
-      asked = rw b (asked_fetch worker_count (at side.linux.workers) (at side.book.rows) (at side.linux.services) (at side.linux.pins) side.book.waiting (at side.lwk.noted) side.to_linux side.to_lwk h.served r q c ms first refl is (new_service c) h.asked);
-      interrupts = rw b (interrupts-state (at side.book.rows) (with_at (at side.book.rows) q (Some (Waiting, c))) (at node.threads) side.book.next (λ y u. sym (live-state (at side.book.rows) q Posted Waiting c is refl refl y) ∙ u) (λ y u. tid-state (at side.book.rows) q Posted Waiting c is refl refl y) (with_ring r ms side.to_linux) (EachRing-take (InterruptIs side.book.next (at side.book.rows) (at node.threads)) r (Request c) ms side.to_linux first h.interrupts));
-      directions = directions-take r (Request c) ms side.to_linux side.to_lwk first h.directions;
-      messages = rw b (Messages-fetch (at side.book.rows) (at node.threads) ring_of (at side.lwk.callers) side.book.next side.to_lwk h.answered q c refl is r ms side.to_linux first h.messages);
-      marked = rw d (marks (Marked-take (at side.linux.services) (at side.lwk.callers) r (Request c) ms side.to_linux first h.marked));
-    }
+      let b = reads-stated Waiting q side.book.rows c Posted is in
+      let d = reads-put side.linux.services q (new_service c) in
+      record {
+        covered = covered_fetch side.round (at side.linux.mirror) (at side.lwk.table) (at side.linux.pins) side.lwk.begun side.linux.cleared side.to_linux side.to_lwk r c ms first h.covered;
+        rounded = rounded_fetch side.round (at side.linux.mirror) (at side.lwk.table) (at side.linux.pins) side.lwk.begun side.linux.cleared side.to_linux side.to_lwk r c ms first h.rounded;
+        owned = h.owned;
+        served = rw (b, d) (served_fetch worker_count (at side.linux.workers) (at side.book.rows) (at side.linux.services) (at side.linux.pins) side.book.waiting (at side.lwk.noted) side.to_linux side.to_lwk h.served r q c ms first refl is (new_service c));
+        answered = rw b (Answered-state (at side.book.rows) q Posted Waiting c is refl refl (at side.lwk.callers) side.book.next side.to_lwk h.answered);
+        calls = h.calls;
+        asked = rw b (asked_fetch worker_count (at side.linux.workers) (at side.book.rows) (at side.linux.services) (at side.linux.pins) side.book.waiting (at side.lwk.noted) side.to_linux side.to_lwk h.served r q c ms first refl is (new_service c) h.asked);
+        interrupts = rw b (interrupts-state (at side.book.rows) (with_at (at side.book.rows) q (Some (Waiting, c))) (at node.threads) side.book.next (λ y u. sym (live-state (at side.book.rows) q Posted Waiting c is refl refl y) ∙ u) (λ y u. tid-state (at side.book.rows) q Posted Waiting c is refl refl y) (with_ring r ms side.to_linux) (EachRing-take (InterruptIs side.book.next (at side.book.rows) (at node.threads)) r (Request c) ms side.to_linux first h.interrupts));
+        directions = directions-take r (Request c) ms side.to_linux side.to_lwk first h.directions;
+        messages = rw b (Messages-fetch (at side.book.rows) (at node.threads) ring_of (at side.lwk.callers) side.book.next side.to_lwk h.answered q c refl is r ms side.to_linux first h.messages);
+        marked = rw d (marks (Marked-take (at side.linux.services) (at side.lwk.callers) r (Request c) ms side.to_linux first h.marked));
+      }
     where
       marks : Marked (at side.linux.services) (at side.lwk.callers) (with_ring r ms side.to_linux) → Marked (with_at (at side.linux.services) q (Some (new_service c))) (at side.lwk.callers) (with_ring r ms side.to_linux)
       marks m = record { fetched = λ t x e u. go t x e (x.request == q) refl u; posted = m.posted }

@@ -24,13 +24,13 @@ module _ (workers : Reads ℕ) (rows : Reads (ReqState × Call)) (services : Rea
   status-fetch x = go (x == q) refl
     where
       go : (b : Bool) → (x == q) ≡ b
-        → status_in (state_in (if b then Some (Waiting, c) else rows x)) (call_in (if b then Some (Waiting, c) else rows x)) (unwrap_or (if b then Some (new_service c) else services x) no_service) (has_empty workers x (with_ring r ms rings)) (reply_code x bs)
-        ≡ status_by rows services workers rings bs x
+          → status_in (state_in (if b then Some (Waiting, c) else rows x)) (call_in (if b then Some (Waiting, c) else rows x)) (unwrap_or (if b then Some (new_service c) else services x) no_service) (has_empty workers x (with_ring r ms rings)) (reply_code x bs)
+          ≡ status_by rows services workers rings bs x
       go true e = let g : x ≡ q = grind (arith, nat_tests, e) in rw (g, is) refl
       go false e = ap (λ b. status_in (state_in (rows x)) (call_in (rows x)) (unwrap_or (services x) no_service) b (reply_code x bs)) (has_empty-take workers x r (Request c) ms rings refl first)
 
 pub image_fetch_request : (frames : Map (List ℕ)) (p : ℕ) (side : Side) (node : Node) (worker_count : ℕ) (ring_of : ℕ → ℕ) (h : OfProcess p side node worker_count ring_of) (r : ℕ) (c : Call) (ms : List Msg) → ring r side.to_linux ≡ Request c ∷ ms
-  → shown_own frames (record side { linux = (fetch_request c side.linux side.book side.round).linux; book = (fetch_request c side.linux side.book side.round).book; round = side.round; to_linux = with_ring r ms side.to_linux }) ≡ shown_own frames side
+    → shown_own frames (record side { linux = (fetch_request c side.linux side.book side.round).linux; book = (fetch_request c side.linux side.book side.round).book; round = side.round; to_linux = with_ring r ms side.to_linux }) ≡ shown_own frames side
 unfolding fetch_request
 image_fetch_request frames p side node worker_count ring_of h r c ms first =
     let is = first-of (RequestIs (at side.book.rows)) r (Request c) ms side.to_linux first h.asked in
@@ -38,4 +38,3 @@ image_fetch_request frames p side node worker_count ring_of h r c ms first =
     let d = reads-put side.linux.services c.q.0 (new_service c) in
     let side' : Side = record side { linux = record side.linux { services = put side.linux.services c.q.0 (new_service c) }; book = record (with_state side.book c.q.0 Waiting) { waiting = side.book.waiting ++ c.q.0 ∷ [] }; to_linux = with_ring r ms side.to_linux } in
     shown-same frames side side' refl refl (λ t x u. rw (b, d) (status-fetch (at side.linux.workers) (at side.book.rows) (at side.linux.services) side.to_linux side.to_lwk r c.q.0 c ms first is x.request))
-

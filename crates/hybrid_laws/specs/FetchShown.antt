@@ -28,10 +28,10 @@ module _ (worker_count : ℕ) (workers : Reads ℕ) (rows : Reads (ReqState × C
       go : (x : Option ℕ) → workers v ≡ x → serves_it q x ≡ true → v ≡ w
       go None k u = absurd (grind (arith, u))
       go (Some y) k u =
-        let g : y ≡ q = grind (arith, nat_tests, u) in
-        let a = c.workers_hold v y k in
-        let b = c.workers_hold w q serving in
-        grind (arith, nat_tests, g, a, b)
+          let g : y ≡ q = grind (arith, nat_tests, u) in
+          let a = c.workers_hold v y k in
+          let b = c.workers_hold w q serving in
+          grind (arith, nat_tests, g, a, b)
 
   module _ (o : Option Row) (first : ring r rings ≡ Answer w i n o ∷ ms) where
     abbrev rings' : List (List Msg)
@@ -47,9 +47,10 @@ module _ (worker_count : ℕ) (workers : Reads ℕ) (rows : Reads (ReqState × C
       where
         before : has_empty workers q rings ≡ false
         before = sym (has_empty-take workers q r (Answer w i n (Some row)) ms rings refl first) ∙ no_empty workers q w alone (with_ring r ms rings) (none-left (Some row) first)
+
         go : (b : Bool) → (x == q) ≡ b
-          → status_in (state_in (if b then Some (Held, call) else rows x)) (call_in (if b then Some (Held, call) else rows x)) (unwrap_or (services x) no_service) (has_empty workers x (with_ring r ms rings)) (reply_code x bs)
-          ≡ status_by rows services workers rings bs x
+            → status_in (state_in (if b then Some (Held, call) else rows x)) (call_in (if b then Some (Held, call) else rows x)) (unwrap_or (services x) no_service) (has_empty workers x (with_ring r ms rings)) (reply_code x bs)
+            ≡ status_by rows services workers rings bs x
         go true e = let g : x ≡ q = grind (arith, nat_tests, e) in rw (g, is, before) refl
         go false e = ap (λ b. status_in (state_in (rows x)) (call_in (rows x)) (unwrap_or (services x) no_service) b (reply_code x bs)) (has_empty-take workers x r (Answer w i n (Some row)) ms rings refl first)
 
@@ -63,33 +64,36 @@ module _ (worker_count : ℕ) (workers : Reads ℕ) (rows : Reads (ReqState × C
       where
         is_for : serves_it q (workers w) ≡ true
         is_for = grind (arith, nat_tests, serving)
+
         before : has_empty workers q rings ≡ true
         before = empty-there workers q r (Answer w i n None) ms rings is_for first
+
         is_not : (x == q) ≡ false → serves_it x (workers w) ≡ false
         is_not e = grind (arith, nat_tests, serving, e)
+
         go : (b : Bool) → (x == q) ≡ b
-          → status_in (state_in (if b then Some (Ended, call) else rows x)) (call_in (if b then Some (Ended, call) else rows x)) (unwrap_or (if b then Some (record (service_at services q) { answer = fault_answer (service_at services q).progress }) else services x) no_service) (has_empty workers x (with_ring r ms rings)) (reply_code x bs)
-          ≡ status_by rows services workers rings bs x
+            → status_in (state_in (if b then Some (Ended, call) else rows x)) (call_in (if b then Some (Ended, call) else rows x)) (unwrap_or (if b then Some (record (service_at services q) { answer = fault_answer (service_at services q).progress }) else services x) no_service) (has_empty workers x (with_ring r ms rings)) (reply_code x bs)
+            ≡ status_by rows services workers rings bs x
         go true e = let g : x ≡ q = grind (arith, nat_tests, e) in rw (g, is, before) refl
         go false e = ap (λ b. status_in (state_in (rows x)) (call_in (rows x)) (unwrap_or (services x) no_service) b (reply_code x bs)) (has_empty-take workers x r (Answer w i n None) ms rings (is_not e) first)
 
 module _ (p : ℕ) (side : Side) (node : Node) (worker_count : ℕ) (ring_of : ℕ → ℕ) (h : OfProcess p side node worker_count ring_of) (r w i n : ℕ) (ms : List Msg) where
   pub image_fetch_row : (frames : Map (List ℕ)) (row : Row) → ring r side.to_linux ≡ Answer w i n (Some row) ∷ ms
-    → shown_own frames (record side { linux = (fetch_row w i n row side.linux side.book side.round).linux; book = (fetch_row w i n row side.linux side.book side.round).book; round = side.round; to_linux = with_ring r ms side.to_linux }) ≡ shown_own frames side
+      → shown_own frames (record side { linux = (fetch_row w i n row side.linux side.book side.round).linux; book = (fetch_row w i n row side.linux side.book side.round).book; round = side.round; to_linux = with_ring r ms side.to_linux }) ≡ shown_own frames side
   unfolding fetch_row
   image_fetch_row frames row first =
-    let f = found p side node worker_count ring_of h r w i n (Some row) ms first in
-    let b = reads-stated Held f.0 side.book.rows f.1 Faulted f.3 in
-    let side' : Side = record side { linux = record side.linux { mirror = installed (nat_lt n side.linux.cleared) side.linux.mirror i row }; book = with_state side.book f.0 Held; to_linux = with_ring r ms side.to_linux } in
-    rw f.2 (shown-same frames side side' refl refl (λ t c u. rw b (status-row worker_count (at side.linux.workers) (at side.book.rows) (at side.linux.services) (at side.linux.pins) side.book.waiting (at side.lwk.noted) side.to_linux side.to_lwk h.served r w i n ms f.0 f.1 f.2 f.3 row first c.request)))
+      let f = found p side node worker_count ring_of h r w i n (Some row) ms first in
+      let b = reads-stated Held f.0 side.book.rows f.1 Faulted f.3 in
+      let side' : Side = record side { linux = record side.linux { mirror = installed (nat_lt n side.linux.cleared) side.linux.mirror i row }; book = with_state side.book f.0 Held; to_linux = with_ring r ms side.to_linux } in
+      rw f.2 (shown-same frames side side' refl refl (λ t c u. rw b (status-row worker_count (at side.linux.workers) (at side.book.rows) (at side.linux.services) (at side.linux.pins) side.book.waiting (at side.lwk.noted) side.to_linux side.to_lwk h.served r w i n ms f.0 f.1 f.2 f.3 row first c.request)))
 
   pub image_fetch_empty : (frames : Map (List ℕ)) → ring r side.to_linux ≡ Answer w i n None ∷ ms
-    → shown_own frames (record side { linux = (fetch_empty w side.linux side.book side.round).linux; book = (fetch_empty w side.linux side.book side.round).book; round = side.round; to_linux = with_ring r ms side.to_linux }) ≡ shown_own frames side
+      → shown_own frames (record side { linux = (fetch_empty w side.linux side.book side.round).linux; book = (fetch_empty w side.linux side.book side.round).book; round = side.round; to_linux = with_ring r ms side.to_linux }) ≡ shown_own frames side
   unfolding fetch_empty
   image_fetch_empty frames first =
-    let f = found p side node worker_count ring_of h r w i n None ms first in
-    let k = service_of side.linux.services f.0 in
-    let b = reads-stated Ended f.0 side.book.rows f.1 Faulted f.3 in
-    let d = reads-put side.linux.services f.0 (record k { answer = fault_answer k.progress }) in
-    let side' : Side = record side { linux = record side.linux { services = put side.linux.services f.0 (record k { answer = fault_answer k.progress }) }; book = with_state side.book f.0 Ended; to_linux = with_ring r ms side.to_linux } in
-    rw f.2 (shown-same frames side side' refl refl (λ t c u. rw (b, d) (status-empty worker_count (at side.linux.workers) (at side.book.rows) (at side.linux.services) (at side.linux.pins) side.book.waiting (at side.lwk.noted) side.to_linux side.to_lwk h.served r w i n ms f.0 f.1 f.2 f.3 first c.request)))
+      let f = found p side node worker_count ring_of h r w i n None ms first in
+      let k = service_of side.linux.services f.0 in
+      let b = reads-stated Ended f.0 side.book.rows f.1 Faulted f.3 in
+      let d = reads-put side.linux.services f.0 (record k { answer = fault_answer k.progress }) in
+      let side' : Side = record side { linux = record side.linux { services = put side.linux.services f.0 (record k { answer = fault_answer k.progress }) }; book = with_state side.book f.0 Ended; to_linux = with_ring r ms side.to_linux } in
+      rw f.2 (shown-same frames side side' refl refl (λ t c u. rw (b, d) (status-empty worker_count (at side.linux.workers) (at side.book.rows) (at side.linux.services) (at side.linux.pins) side.book.waiting (at side.lwk.noted) side.to_linux side.to_lwk h.served r w i n ms f.0 f.1 f.2 f.3 first c.request)))

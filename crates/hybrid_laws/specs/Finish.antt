@@ -96,11 +96,11 @@ module _ (worker_count : ℕ) (workers : Reads ℕ) (rows : Reads (ReqState × C
     noted_for = λ v n e. others v n.0 n.1 (λ g. grind (arith, nat_tests, e, g, none-of-w)) (c.noted_for v n e);
     answer_for = EachRing-where (answers_to w) (AnswerIsFor workers services) (AnswerIsFor workers' services') rings (omega (arith, none-of-w)) answer-other c.answer_for;
     pins_serve = λ v x e.
-      let k = c.pins_serve v x e in
-      let ne : v ≢ w = λ (g : v ≡ w). grind (arith, e, g, no_pin) in
-      let n = other-number v k.number k.serves ne in
-      let f : (v == w) ≡ false = grind (arith, nat_tests, ne) in
-      PinServes-keeps workers workers' rows rows' services services' v x k (rw f k.serves) (rw n k.not_faulted) (λ u. (rw n refl, rw n refl));
+        let k = c.pins_serve v x e in
+        let ne : v ≢ w = λ (g : v ≡ w). grind (arith, e, g, no_pin) in
+        let n = other-number v k.number k.serves ne in
+        let f : (v == w) ≡ false = grind (arith, nat_tests, ne) in
+        PinServes-keeps workers workers' rows rows' services services' v x k (rw f k.serves) (rw n k.not_faulted) (λ u. (rw n refl, rw n refl));
   }
 
 -- ---- replies
@@ -133,13 +133,17 @@ module _ (rows : Reads (ReqState × Call)) (callers : Reads Caller) (next : ℕ)
   pub answered_finish : Answered book callers next (bs ++ reply_sent ∷ [])
   answered_finish = record {
     awaited = Each-push (ReplyIsAwaited book callers) bs reply_sent (Each-map (ReplyIsAwaited rows callers) (ReplyIsAwaited book callers) bs still-awaited c.awaited) (the-call (callers call.tid.0) refl (rw is at (c.live q (rw is refl))));
-    calls = λ t x e. let k = c.calls t x e in record { given = k.given; named = λ u. grind (arith, nat_tests, u, k.named);
-      replied = λ u. grind (arith, nat_tests, u, count x.request, none-before, k.replied) };
+    calls = λ t x e. let k = c.calls t x e in record {
+      given = k.given;
+      named = λ u. grind (arith, nat_tests, u, k.named);
+      replied = λ u. grind (arith, nat_tests, u, count x.request, none-before, k.replied);
+    };
     alone = c.alone;
     live = λ p u. grind (arith, nat_tests, u, c.live p);
     replies = λ p. grind (arith, nat_tests, count p, none-before, c.replies p);
     fresh = λ p u. grind (arith, nat_tests, c.fresh p u);
-    not_replied = λ p r e. grind (arith, nat_tests, e, c.not_replied p r) }
+    not_replied = λ p r e. grind (arith, nat_tests, e, c.not_replied p r);
+  }
 
 module _ (p : ℕ) (h : Here) (ring_number : ℕ → ℕ) (k : OfProcess p h.side h.node h.workers ring_number) (q : Pid) (w : ℕ) (e : may_here (Events.Finish q w) h ≡ true) where
   abbrev m : MayFinish h w
@@ -158,8 +162,11 @@ module _ (p : ℕ) (h : Here) (ring_number : ℕ → ℕ) (k : OfProcess p h.sid
   without = with_at rows n None
 
   abbrev side' : Side
-  side' = record h.side { linux = record h.side.linux { workers = cut h.side.linux.workers w; services = cut h.side.linux.services n };
-    book = record h.side.book { rows = cut h.side.book.rows n }; to_lwk = h.side.to_lwk ++ Reply (record { 0 = n }) answer ∷ [] }
+  side' = record h.side {
+    linux = record h.side.linux { workers = cut h.side.linux.workers w; services = cut h.side.linux.services n };
+    book = record h.side.book { rows = cut h.side.book.rows n };
+    to_lwk = h.side.to_lwk ++ Reply (record { 0 = n }) answer ∷ [];
+  }
 
   posted-same : (x : ℕ) → is_posted (state_at without x) ≡ is_posted (state_at rows x)
   posted-same x = let is = m.request.is in grind (arith, nat_tests, is)
@@ -172,22 +179,23 @@ module _ (p : ℕ) (h : Here) (ring_number : ℕ → ℕ) (k : OfProcess p h.sid
 
   kept : OfProcess p side' h.node h.workers ring_number
   kept =
-    let a = reads-cut h.side.linux.workers w in
-    let b = reads-cut h.side.book.rows n in
-    let d = reads-cut h.side.linux.services n in
-    let reply : Msg = Reply (record { 0 = n }) answer in
-    record {
-      covered = k.covered;
-      rounded = Rounded-back h.side.round (at h.side.linux.mirror) (at h.side.linux.pins) h.side.lwk.begun h.side.linux.cleared h.side.to_linux h.side.to_lwk reply refl k.rounded;
-      owned = k.owned;
-      served = rw (a, b, d) (served_finish h.workers (at h.side.linux.workers) rows (at h.side.linux.services) (at h.side.linux.pins) h.side.book.waiting (at h.side.lwk.noted) h.side.to_linux h.side.to_lwk k.served w n m.request.call m.request.serving m.request.is m.no_pin answer);
-      answered = rw b (answered_finish rows (at h.side.lwk.callers) h.side.book.next h.side.to_lwk k.answered n m.request.call m.request.is answer);
-      calls = k.calls;
-      asked = rw b (asked-state rows n Ended m.request.call m.request.is refl None h.side.to_linux k.asked);
-      interrupts = rw b (interrupts-state rows without (at h.node.threads) h.side.book.next live-before tid-same h.side.to_linux k.interrupts);
-      directions = directions-back reply h.side.to_linux h.side.to_lwk refl k.directions;
-      messages = rw b (Messages-fewer rows without posted-same live-before tid-same (at h.node.threads) ring_number (at h.side.lwk.callers) h.side.to_linux k.messages);
-      marked = rw d (record { fetched = λ t x u v. marks (at h.side.linux.services) x.request x.marked v (k.marked.fetched t x u); posted = k.marked.posted }) }
+      let a = reads-cut h.side.linux.workers w in
+      let b = reads-cut h.side.book.rows n in
+      let d = reads-cut h.side.linux.services n in
+      let reply : Msg = Reply (record { 0 = n }) answer in
+      record {
+        covered = k.covered;
+        rounded = Rounded-back h.side.round (at h.side.linux.mirror) (at h.side.linux.pins) h.side.lwk.begun h.side.linux.cleared h.side.to_linux h.side.to_lwk reply refl k.rounded;
+        owned = k.owned;
+        served = rw (a, b, d) (served_finish h.workers (at h.side.linux.workers) rows (at h.side.linux.services) (at h.side.linux.pins) h.side.book.waiting (at h.side.lwk.noted) h.side.to_linux h.side.to_lwk k.served w n m.request.call m.request.serving m.request.is m.no_pin answer);
+        answered = rw b (answered_finish rows (at h.side.lwk.callers) h.side.book.next h.side.to_lwk k.answered n m.request.call m.request.is answer);
+        calls = k.calls;
+        asked = rw b (asked-state rows n Ended m.request.call m.request.is refl None h.side.to_linux k.asked);
+        interrupts = rw b (interrupts-state rows without (at h.node.threads) h.side.book.next live-before tid-same h.side.to_linux k.interrupts);
+        directions = directions-back reply h.side.to_linux h.side.to_lwk refl k.directions;
+        messages = rw b (Messages-fewer rows without posted-same live-before tid-same (at h.node.threads) ring_number (at h.side.lwk.callers) h.side.to_linux k.messages);
+        marked = rw d (record { fetched = λ t x u v. marks (at h.side.linux.services) x.request x.marked v (k.marked.fetched t x u); posted = k.marked.posted });
+      }
     where
       marks : (services : Reads Service) (x : ℕ) (c : Bool) → (service_at (with_at services n None) x).interrupted ≡ true → ((service_at services x).interrupted ≡ true → c ≡ true) → c ≡ true
       marks services x c v f = go (x == n) v
@@ -202,12 +210,12 @@ module _ (p : ℕ) (h : Here) (ring_number : ℕ → ℕ) (k : OfProcess p h.sid
 
   statuses : (x : ℕ) → status_of side' x ≡ status_of h.side x
   statuses x =
-    let a = reads-cut h.side.linux.workers w in
-    let b = reads-cut h.side.book.rows n in
-    let d = reads-cut h.side.linux.services n in
-    let is = m.request.is in
-    let own = code-own n answer h.side.to_lwk (no-reply rows (at h.side.lwk.callers) n (Ended, m.request.call) is h.side.to_lwk k.answered.awaited) in
-    rw (a, b, d) (status-one rows (at h.side.linux.services) (with_at (at h.side.linux.services) n None) (at h.side.linux.workers) (with_at (at h.side.linux.workers) w None) h.side.to_linux h.side.to_linux h.side.to_lwk (h.side.to_lwk ++ Reply (record { 0 = n }) answer ∷ []) n None
+      let a = reads-cut h.side.linux.workers w in
+      let b = reads-cut h.side.book.rows n in
+      let d = reads-cut h.side.linux.services n in
+      let is = m.request.is in
+      let own = code-own n answer h.side.to_lwk (no-reply rows (at h.side.lwk.callers) n (Ended, m.request.call) is h.side.to_lwk k.answered.awaited) in
+      rw (a, b, d) (status-one rows (at h.side.linux.services) (with_at (at h.side.linux.services) n None) (at h.side.linux.workers) (with_at (at h.side.linux.workers) w None) h.side.to_linux h.side.to_linux h.side.to_lwk (h.side.to_lwk ++ Reply (record { 0 = n }) answer ∷ []) n None
       (rw is (ap Over own))
       (λ y f. rw f refl)
       (λ y f. has_empty-same (at h.side.linux.workers) (with_at (at h.side.linux.workers) w None) y (serves-other (at h.side.linux.workers) w n y None m.request.serving (λ z u. absurd (grind (arith, u))) f) h.side.to_linux)
@@ -216,4 +224,4 @@ module _ (p : ℕ) (h : Here) (ring_number : ℕ → ℕ) (k : OfProcess p h.sid
   pub simulates_finish : Simulated (Events.Finish q w) p h
   unfolding finish_here finish
   simulates_finish = simulated-none (Events.Finish q w) p h refl
-    (let s = m.request.serving in rw s (shown-silent h.frames h side' h.turns refl refl statuses))
+      (let s = m.request.serving in rw s (shown-silent h.frames h side' h.turns refl refl statuses))

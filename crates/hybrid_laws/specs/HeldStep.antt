@@ -18,6 +18,7 @@ use Rattle.request_book.specs.declared.ReqState.TheVariants.{Held}
 use Rattle.std.proofs.Common.{ap, arith, refl, subst, sym, ◌∙◌}
 use Rattle.std.proofs.lemmas.Bool.Decides.{nat_tests}
 use Rattle.std.specs.Prelude.{Bool, List, None, Option, Some, false, true, ℕ, ℤ, ◌+◌, ◌==◌, ◌≡◌, ◌≢◌}
+
 pub held-row : (rows : Reads (ReqState × Call)) (q : ℕ) → state_at rows q ≡ Held → (call : Call) × (rows q ≡ Some (Held, call))
 held-row rows q f = go (rows q) refl
   where
@@ -27,7 +28,7 @@ held-row rows q f = go (rows q) refl
 
 -- a request that a worker steps: Held before, and Held or Ended after
 module _ (worker_count : ℕ) (workers : Reads ℕ) (rows : Reads (ReqState × Call)) (services : Reads Service) (pins : Reads Pin) (waiting : List ℕ) (noted : Reads Noted) (rings : List (List Msg)) (bs : List Msg) (c : Served worker_count workers rows services pins waiting noted rings bs) (w q : ℕ) (call : Call) (serving : workers w ≡ Some q) (is : rows q ≡ Some (Held, call)) (pins' : Reads Pin) (others_pins : (v : ℕ) → v ≢ w → pins' v ≡ pins v) (now : ReqState) (k : Service)
-  (not_posted : is_posted now ≡ 0) (not_waiting : is_waiting now ≡ 0) (not_faulted : is_faulted now ≡ 0) (fetched : is_fetched now ≡ true) (held : holder now w ≡ Some w) (same_worker : k.worker ≡ (service_at services q).worker) where
+    (not_posted : is_posted now ≡ 0) (not_waiting : is_waiting now ≡ 0) (not_faulted : is_faulted now ≡ 0) (fetched : is_fetched now ≡ true) (held : holder now w ≡ Some w) (same_worker : k.worker ≡ (service_at services q).worker) where
   abbrev rows' : Reads (ReqState × Call)
   rows' = with_at rows q (Some (now, call))
 
@@ -73,9 +74,9 @@ module _ (worker_count : ℕ) (workers : Reads ℕ) (rows : Reads (ReqState × C
 
   pin-other : (v : ℕ) (y : Pin) → v ≢ w → pins' v ≡ Some y → PinServes workers rows' services' v y
   pin-other v y ne e =
-    let s = c.pins_serve v y (sym (others_pins v ne) ∙ e) in
-    let n = other-number v s.number s.serves ne in
-    PinServes-keeps workers workers rows rows' services services' v y s s.serves (rw n s.not_faulted) (λ u. (rw n refl, rw n refl))
+      let s = c.pins_serve v y (sym (others_pins v ne) ∙ e) in
+      let n = other-number v s.number s.serves ne in
+      PinServes-keeps workers workers rows rows' services services' v y s s.serves (rw n s.not_faulted) (λ u. (rw n refl, rw n refl))
 
   pub served_step : ((y : Pin) → pins' w ≡ Some y → PinServes workers rows' services' w y) → Served worker_count workers rows' services' pins' waiting noted rings bs
   served_step own = record {
@@ -100,14 +101,13 @@ pub state-facts : (o : Option ℤ) (w : ℕ) → (is_posted (state_if o) ≡ 0) 
 state-facts None w = (refl, refl, refl, refl, refl, refl)
 state-facts (Some a) w = (refl, refl, refl, refl, refl, refl)
 
-
 -- ---- a worker without a pin steps its request
 module _ (p : ℕ) (side : Side) (node : Node) (worker_count : ℕ) (ring_of : ℕ → ℕ) (h : OfProcess p side node worker_count ring_of) (w q : ℕ) (call : Call) (serving : at side.linux.workers w ≡ Some q) (is : at side.book.rows q ≡ Some (Held, call)) (no_pin : at side.linux.pins w ≡ None) (now : ReqState) (k : Service)
-  (not_posted : is_posted now ≡ 0) (not_waiting : is_waiting now ≡ 0) (not_faulted : is_faulted now ≡ 0) (fetched : is_fetched now ≡ true) (held : holder now w ≡ Some w) (live : is_live now ≡ true) (same_worker : k.worker ≡ (service_of side.linux.services q).worker) (same_mark : k.interrupted ≡ (service_of side.linux.services q).interrupted) where
+    (not_posted : is_posted now ≡ 0) (not_waiting : is_waiting now ≡ 0) (not_faulted : is_faulted now ≡ 0) (fetched : is_fetched now ≡ true) (held : holder now w ≡ Some w) (live : is_live now ≡ true) (same_worker : k.worker ≡ (service_of side.linux.services q).worker) (same_mark : k.interrupted ≡ (service_of side.linux.services q).interrupted) where
   pub keeps_step : OfProcess p (record side { linux = with_service side.linux q k; book = with_state side.book q now }) node worker_count ring_of
   keeps_step =
-    let d = reads-put side.linux.services q k in
-    goes_on p side node worker_count ring_of h q Held now call is refl live refl not_posted (with_service side.linux q k) side.book.waiting (λ y. rw d (same-marks (at side.linux.services) q k y same_mark)) h.covered h.rounded
+      let d = reads-put side.linux.services q k in
+      goes_on p side node worker_count ring_of h q Held now call is refl live refl not_posted (with_service side.linux q k) side.book.waiting (λ y. rw d (same-marks (at side.linux.services) q k y same_mark)) h.covered h.rounded
       (rw d (served_step worker_count (at side.linux.workers) (at side.book.rows) (at side.linux.services) (at side.linux.pins) side.book.waiting (at side.lwk.noted) side.to_linux side.to_lwk h.served w q call serving is (at side.linux.pins) (λ v n. refl) now k not_posted not_waiting not_faulted fetched held same_worker (λ y e. absurd (grind (arith, e, no_pin)))))
     where
       same-marks : (services : Reads Service) (q : ℕ) (k : Service) (y : ℕ) → k.interrupted ≡ (service_at services q).interrupted → (service_at (with_at services q (Some k)) y).interrupted ≡ (service_at services y).interrupted

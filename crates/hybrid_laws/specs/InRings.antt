@@ -24,7 +24,7 @@ pub record InRings (rows : Reads (ReqState × Call)) (next : ℕ) (threads : Rea
   pub marked : Marked services callers rings
 
 pub in_rings : {p : ℕ} {side : Side} {node : Node} {worker_count : ℕ} {ring_of : ℕ → ℕ} → OfProcess p side node worker_count ring_of
-  → InRings (at side.book.rows) side.book.next (at node.threads) ring_of (at side.lwk.callers) (at side.linux.services) side.to_linux side.to_lwk
+    → InRings (at side.book.rows) side.book.next (at node.threads) ring_of (at side.lwk.callers) (at side.linux.services) side.to_linux side.to_lwk
 in_rings h = record { asked = h.asked; interrupts = h.interrupts; directions = h.directions; messages = h.messages; marked = h.marked }
 
 module _ (rows : Reads (ReqState × Call)) (next : ℕ) (threads : Reads Thread) (ring_of : ℕ → ℕ) (callers : Reads Caller) (services : Reads Service) (rings : List (List Msg)) (bs : List Msg) (h : InRings rows next threads ring_of callers services rings bs) where
@@ -35,7 +35,8 @@ module _ (rows : Reads (ReqState × Call)) (next : ℕ) (threads : Reads Thread)
     interrupts = EachRing-take (InterruptIs next rows threads) r m ms rings first h.interrupts;
     directions = directions-take r m ms rings bs first h.directions;
     messages = Messages-take rows threads ring_of callers m none own r ms rings first h.messages;
-    marked = Marked-take services callers r m ms rings first h.marked }
+    marked = Marked-take services callers r m ms rings first h.marked;
+  }
 
   -- a message comes back
   pub rings-back : (m : Msg) → goes_to_linux m ≡ false → InRings rows next threads ring_of callers services rings (bs ++ m ∷ [])
@@ -52,7 +53,8 @@ module _ (rows : Reads (ReqState × Call)) (next : ℕ) (threads : Reads Thread)
     interrupts = interrupts-state rows (with_at rows q (Some (now, call))) threads next (λ p u. sym (live-state rows q was now call is live still p) ∙ u) (λ p u. tid-state rows q was now call is live still p) rings h.interrupts;
     directions = h.directions;
     messages = Messages-state rows (with_at rows q (Some (now, call))) unposted (live-state rows q was now call is live still) (tid-state rows q was now call is live still) threads ring_of callers rings h.messages;
-    marked = h.marked }
+    marked = h.marked;
+  }
     where
       unposted : (x : ℕ) → is_posted (state_at (with_at rows q (Some (now, call))) x) ≡ is_posted (state_at rows x)
       unposted x = grind (arith, nat_tests, is, a, b)

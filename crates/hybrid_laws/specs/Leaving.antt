@@ -39,7 +39,8 @@ module _ (rows rows' : Reads (ReqState × Call)) (posted-same : (p : ℕ) → is
   pub Messages-fewer : (threads : Reads Thread) (ring_of : ℕ → ℕ) (callers : Reads Caller) (rings : List (List Msg)) → Messages rows threads ring_of callers rings → Messages rows' threads ring_of callers rings
   Messages-fewer threads ring_of callers rings h = record {
     placed = EachNumbered-map (Placed rows threads ring_of) (Placed rows' threads ring_of) 0 rings (placed-states threads ring_of) h.placed;
-    only = EachNumbered-map (OnlyOwn rows threads ring_of callers) (OnlyOwn rows' threads ring_of callers) 0 rings (λ r ms k t x c a b d e. k t x c a b d (sym (posted-same c.request) ∙ e)) h.only }
+    only = EachNumbered-map (OnlyOwn rows threads ring_of callers) (OnlyOwn rows' threads ring_of callers) 0 rings (λ r ms k t x c a b d e. k t x c a b d (sym (posted-same c.request) ∙ e)) h.only;
+  }
 
 -- no Reply of a number that stands in the book is under way
 pub no-reply : (rows : Reads (ReqState × Call)) (callers : Reads Caller) (q : ℕ) (r : ReqState × Call) → rows q ≡ Some r → (bs : List Msg) → Each (ReplyIsAwaited rows callers) bs → tally (replies_to q) bs ≡ 0

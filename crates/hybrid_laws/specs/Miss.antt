@@ -67,9 +67,9 @@ module _ (worker_count : ℕ) (workers : Reads ℕ) (rows : Reads (ReqState × C
     noted_for = c.noted_for;
     answer_for = c.answer_for;
     pins_serve = λ v x e.
-      let k = c.pins_serve v x e in
-      let n = other-request worker_count workers rows services pins waiting noted rings bs c w q serving v k.number k.serves (λ (g : v ≡ w). grind (arith, e, g, no_pin)) in
-      PinServes-keeps workers workers rows rows' services services v x k k.serves (rw n k.not_faulted) (λ u. (rw n refl, refl));
+        let k = c.pins_serve v x e in
+        let n = other-request worker_count workers rows services pins waiting noted rings bs c w q serving v k.number k.serves (λ (g : v ≡ w). grind (arith, e, g, no_pin)) in
+        PinServes-keeps workers workers rows rows' services services v x k k.serves (rw n k.not_faulted) (λ u. (rw n refl, refl));
   }
 
 module _ (p : ℕ) (h : Here) (ring_number : ℕ → ℕ) (k : OfProcess p h.side h.node h.workers ring_number) (q : Pid) (w : ℕ) (e : may_here (Events.Miss q w) h ≡ true) where
@@ -87,11 +87,11 @@ module _ (p : ℕ) (h : Here) (ring_number : ℕ → ℕ) (k : OfProcess p h.sid
 
   kept : OfProcess p (record h.side { book = with_state h.side.book n Faulted; to_lwk = h.side.to_lwk ++ fault_sent ∷ [] }) h.node h.workers ring_number
   kept = with_messages p h.side h.node h.workers ring_number k n Held Faulted m.request.call m.request.is refl refl refl refl h.side.linux h.side.book.waiting h.side.to_linux (h.side.to_lwk ++ fault_sent ∷ [])
-    k.covered
-    (Rounded-back h.side.round (at h.side.linux.mirror) (at h.side.linux.pins) h.side.lwk.begun h.side.linux.cleared h.side.to_linux h.side.to_lwk fault_sent refl k.rounded)
-    (served_miss h.workers (at h.side.linux.workers) (at h.side.book.rows) (at h.side.linux.services) (at h.side.linux.pins) h.side.book.waiting (at h.side.lwk.noted) h.side.to_linux h.side.to_lwk k.served w n m.request.call m.request.serving m.request.is m.no_pin (ready-piece h.node.files progress m.ready))
-    (Answered-back (at h.side.book.rows) (at h.side.lwk.callers) h.side.book.next h.side.to_lwk fault_sent (λ x. refl) tt k.answered)
-    (rings-back (at h.side.book.rows) h.side.book.next (at h.node.threads) ring_number (at h.side.lwk.callers) (at h.side.linux.services) h.side.to_linux h.side.to_lwk (in_rings k) fault_sent refl)
+      k.covered
+      (Rounded-back h.side.round (at h.side.linux.mirror) (at h.side.linux.pins) h.side.lwk.begun h.side.linux.cleared h.side.to_linux h.side.to_lwk fault_sent refl k.rounded)
+      (served_miss h.workers (at h.side.linux.workers) (at h.side.book.rows) (at h.side.linux.services) (at h.side.linux.pins) h.side.book.waiting (at h.side.lwk.noted) h.side.to_linux h.side.to_lwk k.served w n m.request.call m.request.serving m.request.is m.no_pin (ready-piece h.node.files progress m.ready))
+      (Answered-back (at h.side.book.rows) (at h.side.lwk.callers) h.side.book.next h.side.to_lwk fault_sent (λ x. refl) tt k.answered)
+      (rings-back (at h.side.book.rows) h.side.book.next (at h.node.threads) ring_number (at h.side.lwk.callers) (at h.side.linux.services) h.side.to_linux h.side.to_lwk (in_rings k) fault_sent refl)
 
   pub keeps_miss : OfProcess p (after_here (Events.Miss q w) p h).side (after_here (Events.Miss q w) p h).node h.workers ring_number
   unfolding miss
@@ -107,16 +107,16 @@ module _ (p : ℕ) (h : Here) (ring_number : ℕ → ℕ) (k : OfProcess p h.sid
           go : (o : Option ℕ) → at h.side.linux.workers v ≡ o → serves_it n o ≡ true → v ≡ w
           go None f u = absurd (grind (arith, u))
           go (Some y) f u = let g : y ≡ n = grind (arith, nat_tests, u) in
-            one-worker h.workers (at h.side.linux.workers) (at h.side.book.rows) (at h.side.linux.services) (at h.side.linux.pins) h.side.book.waiting (at h.side.lwk.noted) h.side.to_linux h.side.to_lwk k.served v w n (f ∙ ap Some g) m.request.serving
+              one-worker h.workers (at h.side.linux.workers) (at h.side.book.rows) (at h.side.linux.services) (at h.side.linux.pins) h.side.book.waiting (at h.side.lwk.noted) h.side.to_linux h.side.to_lwk k.served v w n (f ∙ ap Some g) m.request.serving
 
   statuses : (x : ℕ) → status_of (record h.side { book = with_state h.side.book n Faulted; to_lwk = h.side.to_lwk ++ fault_sent ∷ [] }) x ≡ status_of h.side x
   statuses x =
-    let b = reads-stated Faulted n h.side.book.rows m.request.call Held m.request.is in
-    let is = m.request.is in
-    rw b (status-one (at h.side.book.rows) (at h.side.linux.services) (at h.side.linux.services) (at h.side.linux.workers) (at h.side.linux.workers) h.side.to_linux h.side.to_linux h.side.to_lwk (h.side.to_lwk ++ fault_sent ∷ []) n (Some (Faulted, m.request.call))
+      let b = reads-stated Faulted n h.side.book.rows m.request.call Held m.request.is in
+      let is = m.request.is in
+      rw b (status-one (at h.side.book.rows) (at h.side.linux.services) (at h.side.linux.services) (at h.side.linux.workers) (at h.side.linux.workers) h.side.to_linux h.side.to_linux h.side.to_lwk (h.side.to_lwk ++ fault_sent ∷ []) n (Some (Faulted, m.request.call))
       (rw (none-empty, is) refl) (λ y f. refl) (λ y f. refl) (λ y f. code-other y h.side.to_lwk fault_sent (λ rest. refl)) x)
 
   pub simulates_miss : Simulated (Events.Miss q w) p h
   unfolding miss
   simulates_miss = simulated-none (Events.Miss q w) p h refl
-    (let s = m.request.serving in rw s (shown-silent h.frames h (record h.side { book = with_state h.side.book n Faulted; to_lwk = h.side.to_lwk ++ fault_sent ∷ [] }) (turn_given_up p h.side.linux h.node.files w h.turns) refl refl statuses))
+      (let s = m.request.serving in rw s (shown-silent h.frames h (record h.side { book = with_state h.side.book n Faulted; to_lwk = h.side.to_lwk ++ fault_sent ∷ [] }) (turn_given_up p h.side.linux h.node.files w h.turns) refl refl statuses))

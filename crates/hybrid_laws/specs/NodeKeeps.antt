@@ -12,6 +12,7 @@ use Rattle.kernel_model.specs.Pages.{page_end, page_number, range}
 use Rattle.kernel_model.specs.declared.Change.{Change}
 use Rattle.kernel_model.specs.declared.Change.TheVariants.{Brk, Protect, Unmap, Map as ChangeMap}
 use Rattle.kernel_model.specs.declared.Does.{Does}
+use Rattle.kernel_model.specs.declared.Does.TheVariants.{Asleep, Called, InVm, InWait, Ready, Stopped}
 use Rattle.mck_word.specs.Maps.{at}
 use Rattle.request_book.specs.declared.ReqState.{ReqState}
 use Rattle.std.proofs.Common.{arith, refl, subst, sym, ◌∙◌, ap}
@@ -118,53 +119,75 @@ closing-same a b (Unmap r) e = refl
 closing-same a b (Protect r rights) e = refl
 closing-same a b (Brk x) e = ap (λ (h : ℕ). range (page_end x) (page_number (h + most_heap))) e
 
--- ---- the process whose side stays
+-- ---- the process whose side stays, where no free thread of it is Called
 module _ (p : ℕ) (free : ℕ → Bool) (threads threads' : Reads Thread)
-  (idle : (u : ℕ) (x : Thread) → free u ≡ true → threads u ≡ Some x → x.process ≡ p → is_pinned x.does ≡ false)
+  (idle : (u : ℕ) (x : Thread) → free u ≡ true → threads u ≡ Some x → x.process ≡ p → is_called x.does ≡ false)
   (keeps : (u : ℕ) → ThreadKeeps p (free u) (threads u) (threads' u)) where
-  pub pinned-stays : (u : ℕ) (x : Thread) → threads u ≡ Some x → x.process ≡ p → is_pinned x.does ≡ true → (y : Thread) × (threads' u ≡ Some y) × (y.process ≡ p) × (y.place ≡ x.place) × (y.does ≡ x.does)
-  pinned-stays u x e own k = (keeps u).kept x e own (not-free (free u) refl) k
+  pub called-stays : (u : ℕ) (x : Thread) → threads u ≡ Some x → x.process ≡ p → is_called x.does ≡ true → (y : Thread) × (threads' u ≡ Some y) × (y.process ≡ p) × (y.place ≡ x.place) × (y.does ≡ x.does)
+  called-stays u x e own k = (keeps u).kept x e own (not-free (free u) refl) (rw k refl)
     where
       not-free : (b : Bool) → free u ≡ b → free u ≡ false
       not-free false f = f
       not-free true f = absurd (let i = idle u x f e own in grind (arith, i, k))
 
   module _ (callers : Reads Caller) (agree : CallsAgree p threads callers) where
-    caller-thread : (u : ℕ) (c : Caller) → callers u ≡ Some c → (x : Thread) × (threads u ≡ Some x) × (x.process ≡ p) × (is_pinned x.does ≡ true) × (is_called x.does ≡ true)
-    caller-thread u c e =
-      let k = agree.there u c e in
-      let l : is_called k.0.does ≡ true = agree.called u k.0 k.1 k.2 ∙ ap is_some e in
-      (k.0, k.1, k.2, rw l refl, l)
+    caller-thread : (u : ℕ) (c : Caller) → callers u ≡ Some c → (x : Thread) × (threads u ≡ Some x) × (x.process ≡ p) × (is_called x.does ≡ true)
+    caller-thread u c e = let k = agree.there u c e in (k.0, k.1, k.2, agree.called u k.0 k.1 k.2 ∙ ap is_some e)
 
     pub places-stay : (u : ℕ) (c : Caller) → callers u ≡ Some c → (k : ℕ) → place_in k (threads' u) ≡ place_in k (threads u)
     places-stay u c e k =
       let x = caller-thread u c e in
-      let y = pinned-stays u x.0 x.1 x.2 x.3 in
+      let y = called-stays u x.0 x.1 x.2 x.3 in
       let a = y.1 in let b = x.1 in let d = y.3 in rw (a, b, d) refl
 
     pub calls-stay : CallsAgree p threads' callers
     calls-stay = record {
       called = λ u y e own. go u y e own (is_called y.does) refl (callers u) refl;
-      there = λ u c e. let x = caller-thread u c e in let y = pinned-stays u x.0 x.1 x.2 x.3 in (y.0, y.1, y.2) }
+      there = λ u c e. let x = caller-thread u c e in let y = called-stays u x.0 x.1 x.2 x.3 in (y.0, y.1, y.2) }
       where
         go : (u : ℕ) (y : Thread) → threads' u ≡ Some y → y.process ≡ p → (b : Bool) → is_called y.does ≡ b → (o : Option Caller) → callers u ≡ o → b ≡ is_some o
         go u y e own true f o g = let x = (keeps u).called y e own f in sym x.3 ∙ agree.called u x.0 x.1 x.2 ∙ ap is_some g
         go u y e own false f None g = refl
         go u y e own false f (Some c) g =
           let x = caller-thread u c g in
-          let z = pinned-stays u x.0 x.1 x.2 x.3 in
+          let z = called-stays u x.0 x.1 x.2 x.3 in
           let o = sym z.1 ∙ e in
           let s : z.0 ≡ y = cc in
-          absurd (let t = sym (ap is_called z.4 ∙ x.4) ∙ ap (λ (w : Thread). is_called w.does) s ∙ f in grind (arith, t))
+          absurd (let t = sym (ap is_called z.4 ∙ x.3) ∙ ap (λ (w : Thread). is_called w.does) s ∙ f in grind (arith, t))
 
-  pub owned-stays : (process process' : Process) → process'.heap_base ≡ process.heap_base → (round : Option Round) (changing : Option ℕ) → Owned process threads p round changing → Owned process' threads' p round changing
-  owned-stays process process' heap None None h = tt
-  owned-stays process process' heap None (Some t) h = absurd h
-  owned-stays process process' heap (Some r) None h = absurd h
-  owned-stays process process' heap (Some r) (Some t) h =
+-- the round's thread stays, where no free thread of the process is InVm
+module _ (p : ℕ) (free : ℕ → Bool) (threads threads' : Reads Thread)
+  (idle : (u : ℕ) (x : Thread) → free u ≡ true → threads u ≡ Some x → x.process ≡ p → change_in x.does ≡ None)
+  (keeps : (u : ℕ) → ThreadKeeps p (free u) (threads u) (threads' u)) (process process' : Process) (heap : process'.heap_base ≡ process.heap_base) where
+  pub owned-keeps : (round : Option Round) (changing : Option ℕ) → Owned process threads p round changing → Owned process' threads' p round changing
+  owned-keeps None None h = tt
+  owned-keeps None (Some t) h = absurd h
+  owned-keeps (Some r) None h = absurd h
+  owned-keeps (Some r) (Some t) h =
     let does = h.does in
-    let y = pinned-stays t h.thread h.there h.own (rw does refl) in
+    let y = (keeps t).kept h.thread h.there h.own (not-free (free t) refl) (rw does refl) in
     record { thread = y.0; there = y.1; own = y.2; change = h.change; does = y.4 ∙ does; range_is = closing-same process process' h.change heap ∙ h.range_is }
+    where
+      not-free : (b : Bool) → free t ≡ b → free t ≡ false
+      not-free false f = f
+      not-free true f = absurd (let n = sym (idle t h.thread f h.there h.own) ∙ ap change_in h.does in grind (arith, n))
+
+-- a thread that is not pinned changes nothing
+pub no-change : (d : Does) → is_pinned d ≡ false → change_in d ≡ None
+no-change (InVm c) e = absurd (grind (arith, e))
+no-change Called e = absurd (grind (arith, e))
+no-change Ready e = refl
+no-change (Stopped s) e = refl
+no-change (Asleep a) e = refl
+no-change (InWait n s) e = refl
+
+pub no-call : (d : Does) → is_pinned d ≡ false → is_called d ≡ false
+no-call Called e = absurd (grind (arith, e))
+no-call (InVm c) e = refl
+no-call Ready e = refl
+no-call (Stopped s) e = refl
+no-call (Asleep a) e = refl
+no-call (InWait n s) e = refl
 
 module _ (p : ℕ) (free : ℕ → Bool) (side : Side) (node node' : Node) (worker_count : ℕ) (ring_of : ℕ → ℕ) (k : Keeps p free node node')
   (idle : (u : ℕ) (x : Thread) → free u ≡ true → at node.threads u ≡ Some x → x.process ≡ p → is_pinned x.does ≡ false) where
@@ -172,12 +195,12 @@ module _ (p : ℕ) (free : ℕ → Bool) (side : Side) (node node' : Node) (work
   pub node-keeps : OfProcess p side node worker_count ring_of → OfProcess p side node' worker_count ring_of
   node-keeps h =
     let live : (q : ℕ) → is_live (state_at (at side.book.rows) q) ≡ true → (c : Caller) × (at side.lwk.callers (tid_in (at side.book.rows q)) ≡ Some c) = λ q l. calls-found q (at side.lwk.callers (tid_in (at side.book.rows q))) (h.answered.live q l) in
-    let stays = places-stay p free (at node.threads) (at node'.threads) idle k.threads (at side.lwk.callers) h.calls in
+    let stays = places-stay p free (at node.threads) (at node'.threads) (λ u x f e own. no-call x.does (idle u x f e own)) k.threads (at side.lwk.callers) h.calls in
     record {
       covered = h.covered; rounded = h.rounded;
-      owned = owned-stays p free (at node.threads) (at node'.threads) idle k.threads (process_of node p) (process_of node' p) k.heap side.round side.lwk.changing h.owned;
+      owned = owned-keeps p free (at node.threads) (at node'.threads) (λ u x f e own. no-change x.does (idle u x f e own)) k.threads (process_of node p) (process_of node' p) k.heap side.round side.lwk.changing h.owned;
       served = h.served; answered = h.answered;
-      calls = calls-stay p free (at node.threads) (at node'.threads) idle k.threads (at side.lwk.callers) h.calls;
+      calls = calls-stay p free (at node.threads) (at node'.threads) (λ u x f e own. no-call x.does (idle u x f e own)) k.threads (at side.lwk.callers) h.calls;
       asked = h.asked;
       interrupts = interrupts-stay (at side.book.rows) (at side.lwk.callers) (at node.threads) (at node'.threads) stays live side.book.next side.to_linux h.interrupts;
       directions = h.directions;

@@ -99,11 +99,11 @@ module _ (worker_count : ℕ) (workers : Reads ℕ) (rows : Reads (ReqState × C
     noted_for = λ v n e. others v n.0 n.1 (λ g. grind (arith, nat_tests, e, g, none-of-w)) (c.noted_for v n e);
     answer_for = EachRing-where (answers_to w) (AnswerIsFor workers services) (AnswerIsFor workers' services) rings (omega (arith, none-of-w)) answer-other c.answer_for;
     pins_serve = λ v x e.
-      let k = c.pins_serve v x e in
-      let ne : v ≢ w = λ (g : v ≡ w). grind (arith, e, g, no_pin) in
-      let n = other-request worker_count workers rows services pins waiting noted rings bs c w q serving v k.number k.serves ne in
-      let f : (v == w) ≡ false = grind (arith, nat_tests, ne) in
-      PinServes-keeps workers workers' rows rows' services services v x k (rw f k.serves) (rw n k.not_faulted) (λ u. (rw n refl, refl));
+        let k = c.pins_serve v x e in
+        let ne : v ≢ w = λ (g : v ≡ w). grind (arith, e, g, no_pin) in
+        let n = other-request worker_count workers rows services pins waiting noted rings bs c w q serving v k.number k.serves ne in
+        let f : (v == w) ≡ false = grind (arith, nat_tests, ne) in
+        PinServes-keeps workers workers' rows rows' services services v x k (rw f k.serves) (rw n k.not_faulted) (λ u. (rw n refl, refl));
   }
 
 -- the two ways, with the request named
@@ -116,31 +116,31 @@ unfolding park_blocks
 blocks-is l b w q s = rw s refl
 
 module _ (p : ℕ) (h : Here) (ring_number : ℕ → ℕ) (k : OfProcess p h.side h.node h.workers ring_number) (q : Pid) (w : ℕ) (e : may_here (Events.Park q w) h ≡ true) where
-  abbrev m : MayPark h w
+  abbrev pub m : MayPark h w
   m = may-park h q w e
 
-  abbrev n : ℕ
+  abbrev pub n : ℕ
   n = m.request.number
 
-  abbrev before : Service
+  abbrev pub before : Service
   before = service_of h.side.linux.services n
 
-  abbrev stopped : Service
+  abbrev pub stopped : Service
   stopped = record before { answer = interrupted_answer before.progress }
 
-  abbrev after_park : Bool → Side
+  abbrev pub after_park : Bool → Side
   after_park true = record h.side { linux = with_service h.side.linux n stopped; book = with_state h.side.book n Ended }
   after_park false = record h.side { linux = record h.side.linux { workers = cut h.side.linux.workers w }; book = with_state h.side.book n Parked }
 
-  kept : (b : Bool) → OfProcess p (after_park b) h.node h.workers ring_number
+  pub kept : (b : Bool) → OfProcess p (after_park b) h.node h.workers ring_number
   kept true = keeps_step p h.side h.node h.workers ring_number k w n m.request.call m.request.serving m.request.is m.no_pin Ended stopped refl refl refl refl refl refl refl refl
   kept false =
-    let a = reads-cut h.side.linux.workers w in
-    goes_on p h.side h.node h.workers ring_number k n Held Parked m.request.call m.request.is refl refl refl refl (record h.side.linux { workers = cut h.side.linux.workers w }) h.side.book.waiting (λ x. refl) k.covered k.rounded
+      let a = reads-cut h.side.linux.workers w in
+      goes_on p h.side h.node h.workers ring_number k n Held Parked m.request.call m.request.is refl refl refl refl (record h.side.linux { workers = cut h.side.linux.workers w }) h.side.book.waiting (λ x. refl) k.covered k.rounded
       (rw a (served_block h.workers (at h.side.linux.workers) (at h.side.book.rows) (at h.side.linux.services) (at h.side.linux.pins) h.side.book.waiting (at h.side.lwk.noted) h.side.to_linux h.side.to_lwk k.served w n m.request.call m.request.serving m.request.is m.no_pin))
 
   -- the event's function with the request named
-  abbrev parked : Bool → Here
+  abbrev pub parked : Bool → Here
   parked b = with_node (with_side (record h { turns = turn_given_up p h.side.linux h.node.files w h.turns }) (after_park b)) (set_files (files_if b before.progress h.node.files) h.node)
 
   abbrev placed : LinuxSide × Book → Bool → Progress → Here
@@ -150,11 +150,11 @@ module _ (p : ℕ) (h : Here) (ring_number : ℕ → ℕ) (k : OfProcess p h.sid
   by-mark true = ap (λ (x : LinuxSide × Book). placed x true before.progress) (stops-is h.side.linux h.side.book w n m.request.serving)
   by-mark false = ap (λ (x : LinuxSide × Book). placed x false before.progress) (blocks-is h.side.linux h.side.book w n m.request.serving)
 
-  park-is : park_here p w h ≡ parked before.interrupted
+  pub park-is : park_here p w h ≡ parked before.interrupted
   unfolding park_here
   park-is =
-    ap (λ (o : Option ℕ). let k = service_of h.side.linux.services (unwrap_or o 0) in placed (parks k.interrupted h.side.linux h.side.book w) k.interrupted k.progress) m.request.serving
-    ∙ by-mark before.interrupted
+      ap (λ (o : Option ℕ). let k = service_of h.side.linux.services (unwrap_or o 0) in placed (parks k.interrupted h.side.linux h.side.book w) k.interrupted k.progress) m.request.serving
+      ∙ by-mark before.interrupted
 
   pub keeps_park : OfProcess p (after_here (Events.Park q w) p h).side (after_here (Events.Park q w) p h).node h.workers ring_number
   keeps_park = subst (λ (x : Here). OfProcess p x.side x.node h.workers ring_number) (sym park-is) (files-any p (after_park before.interrupted) h.node h.workers ring_number (files_if before.interrupted before.progress h.node.files) (kept before.interrupted))
@@ -169,21 +169,21 @@ module _ (p : ℕ) (h : Here) (ring_number : ℕ → ℕ) (k : OfProcess p h.sid
   call-is : at (each (shown_call h.side) h.side.lwk.callers) t ≡ Some (record { marked = caller.marked; status = Active before.progress })
   call-is = let is = m.request.is in rw is at (shown-call-at p h.side h.node h.workers ring_number k n Held m.request.call m.request.is refl)
 
-  abbrev status_then : Bool → CallStatus
+  abbrev pub status_then : Bool → CallStatus
   status_then true = Over stopped.answer
   status_then false = Blocked before.progress
 
-  own-then : (b : Bool) → status_of (after_park b) n ≡ status_then b
+  pub own-then : (b : Bool) → status_of (after_park b) n ≡ status_then b
   own-then true = status-own h.side n Held Ended m.request.call m.request.is h.side.linux.mirror h.side.linux.pins h.side.linux.workers (put h.side.linux.services n stopped) h.side.linux.cleared h.side.book.waiting stopped (put-own h.side.linux.services n stopped)
   own-then false =
-    let e = reads-stated Parked n h.side.book.rows m.request.call Held m.request.is in
-    let same : (n == n) ≡ true = grind (arith, nat_tests) in
-    rw (e, same) refl
+      let e = reads-stated Parked n h.side.book.rows m.request.call Held m.request.is in
+      let same : (n == n) ≡ true = grind (arith, nat_tests) in
+      rw (e, same) refl
 
-  others-then : (b : Bool) (x : ℕ) → (x == n) ≡ false → status_of (after_park b) x ≡ status_of h.side x
+  pub others-then : (b : Bool) (x : ℕ) → (x == n) ≡ false → status_of (after_park b) x ≡ status_of h.side x
   others-then true = status-others h.side n Held Ended m.request.call m.request.is h.side.linux.mirror h.side.linux.pins h.side.linux.workers (put h.side.linux.services n stopped) h.side.linux.cleared h.side.book.waiting (put-other h.side.linux.services n stopped) (λ x f v. refl)
   others-then false = status-others h.side n Held Parked m.request.call m.request.is h.side.linux.mirror h.side.linux.pins (cut h.side.linux.workers w) h.side.linux.services h.side.linux.cleared h.side.book.waiting (λ x f. refl)
-    (λ x f v. let a = reads-cut h.side.linux.workers w in rw a (serves-other (at h.side.linux.workers) w n x None m.request.serving (λ z u. absurd (grind (arith, u))) f v))
+      (λ x f v. let a = reads-cut h.side.linux.workers w in rw a (serves-other (at h.side.linux.workers) w n x None m.request.serving (λ z u. absurd (grind (arith, u))) f v))
 
   calls-then : (b : Bool) → put (each (shown_call h.side) h.side.lwk.callers) t (record { marked = caller.marked; status = status_then b }) ≡ each (shown_call (after_park b)) (after_park b).lwk.callers
   calls-then true = calls-after p h.side h.node h.workers ring_number k n Held m.request.call m.request.is refl (after_park true) (status_then true) (own-then true) (others-then true)
@@ -192,8 +192,8 @@ module _ (p : ℕ) (h : Here) (ring_number : ℕ → ℕ) (k : OfProcess p h.sid
   -- a call whose Interrupt was fetched is marked
   is-marked : before.interrupted ≡ true → caller.marked ≡ true
   is-marked e =
-    let c = the-caller p h.side h.node h.workers ring_number k n Held m.request.call m.request.is refl in
-    k.marked.fetched t c.0 c.1 (ap (λ (x : ℕ). (service_of h.side.linux.services x).interrupted) c.2 ∙ e)
+      let c = the-caller p h.side h.node h.workers ring_number k n Held m.request.call m.request.is refl in
+      k.marked.fetched t c.0 c.1 (ap (λ (x : ℕ). (service_of h.side.linux.services x).interrupted) c.2 ∙ e)
 
   interrupted-may : before.interrupted ≡ true → OneSteps.may_here (Steps.Interrupted m.request.call.tid) (shown_here h) ≡ true
   interrupted-may e = let c = call-is in let f = is-marked e in let g = m.not_ready in ap (λ b. b || may_be_called_back h.node t) (active-may f g)
@@ -207,15 +207,15 @@ module _ (p : ℕ) (h : Here) (ring_number : ℕ → ℕ) (k : OfProcess p h.sid
   interrupted-after : OneSteps.after_here (Steps.Interrupted m.request.call.tid) p (shown_here h) ≡ shown_here (parked true)
   unfolding OneSteps.call_ended
   interrupted-after = let c = call-is in let x = calls-then true in
-    rw (c, c) (λ i. record { own = record { memory = shown_memory h.side.lwk.table h.frames; calls = x i }; node = set_files (given_back before.progress h.node.files) h.node; free = length h.free; born = shown_born h.frames h.born })
+      rw (c, c) (λ i. record { own = record { memory = shown_memory h.side.lwk.table h.frames; calls = x i }; node = set_files (given_back before.progress h.node.files) h.node; free = length h.free; born = shown_born h.frames h.born })
 
   block-after : OneSteps.after_here (Steps.Block m.request.call.tid) p (shown_here h) ≡ shown_here (parked false)
   block-after = let c = call-is in let x = calls-then false in
-    rw c (λ i. record { own = record { memory = shown_memory h.side.lwk.table h.frames; calls = x i }; node = h.node; free = length h.free; born = shown_born h.frames h.born })
+      rw c (λ i. record { own = record { memory = shown_memory h.side.lwk.table h.frames; calls = x i }; node = h.node; free = length h.free; born = shown_born h.frames h.born })
 
   image-is : image_here (Events.Park q w) p h ≡ image_of_park before.interrupted t
   image-is = ap (λ (o : Option ℕ). image_of_park (service_of h.side.linux.services (unwrap_or o 0)).interrupted (thread_served h.side w)) m.request.serving
-    ∙ ap (image_of_park before.interrupted) (thread-served-is h.side w n Held m.request.call m.request.serving m.request.is)
+      ∙ ap (image_of_park before.interrupted) (thread-served-is h.side w n Held m.request.call m.request.serving m.request.is)
 
   by-way : (b : Bool) → before.interrupted ≡ b → Simulated (Events.Park q w) p h
   by-way true e = simulated-one (Events.Park q w) p h (Steps.Interrupted m.request.call.tid) (image-is ∙ ap (λ b. image_of_park b t) e) (interrupted-may e) (interrupted-after ∙ ap (λ b. shown_here (parked b)) (sym e) ∙ ap shown_here (sym park-is))

@@ -52,7 +52,7 @@ may-pin h q w e =
     let s = c.0.serving in
     let x = some-is (row_for h.side.linux w) d.1 in
     let y = looked-up-is (at h.side.linux.mirror (next_piece (service_of h.side.linux.services c.0.number).progress).page) (needed_access (service_of h.side.linux.services c.0.number).progress) x.0
-      (ap (λ (o : Option ℕ). looked_up (at h.side.linux.mirror (next_piece (service_of h.side.linux.services (unwrap_or o 0)).progress).page) (needed_access (service_of h.side.linux.services (unwrap_or o 0)).progress)) (sym s) ∙ x.1) in
+    (ap (λ (o : Option ℕ). looked_up (at h.side.linux.mirror (next_piece (service_of h.side.linux.services (unwrap_or o 0)).progress).page) (needed_access (service_of h.side.linux.services (unwrap_or o 0)).progress)) (sym s) ∙ x.1) in
     record { below = grind (arith, nat_tests, a.0); request = c.0; no_pin = c.1; ready = rw s at b.1; row = x.0; found = x.1; there = y.0; right = y.1 }
 
 -- an acknowledged page is a taken one
@@ -90,8 +90,8 @@ module _ (p : ℕ) (h : Here) (ring_number : ℕ → ℕ) (k : OfProcess p h.sid
 
   serves-new : PinServes (at h.side.linux.workers) (at h.side.book.rows) (at h.side.linux.services) w new
   serves-new =
-    let is : state_at (at h.side.book.rows) n ≡ Held = ap state_in m.request.is in
-    record { number = n; serves = m.request.serving; not_faulted = ap is_faulted is; held = λ u. is; left = λ u. ready-piece h.node.files progress m.ready; page_is = λ u. refl; right = λ u. m.right }
+      let is : state_at (at h.side.book.rows) n ≡ Held = ap state_in m.request.is in
+      record { number = n; serves = m.request.serving; not_faulted = ap is_faulted is; held = λ u. is; left = λ u. ready-piece h.node.files progress m.ready; page_is = λ u. refl; right = λ u. m.right }
 
   -- what holds of the new pin and of the old ones holds of each
   of-each : (P : ℕ → Pin → Type 0) → P w new → ((v : ℕ) (x : Pin) → at h.side.linux.pins v ≡ Some x → P v x) → (v : ℕ) (x : Pin) → pins' v ≡ Some x → P v x
@@ -103,19 +103,37 @@ module _ (p : ℕ) (h : Here) (ring_number : ℕ → ℕ) (k : OfProcess p h.sid
 
   kept : OfProcess p (record h.side { linux = record h.side.linux { pins = put h.side.linux.pins w new } }) h.node h.workers ring_number
   kept =
-    let d = reads-put h.side.linux.pins w new in
-    record {
-      covered = rw d (record { mirror_rows = k.covered.mirror_rows; answers = k.covered.answers; not_ahead = k.covered.not_ahead; pin_rows = of-each (λ v x. Covers (at h.side.lwk.table) x.page (x.frame, x.rights)) covers k.covered.pin_rows });
-      rounded = rw d (record { clears_are = k.rounded.clears_are; acks_are = k.rounded.acks_are; clear_of = k.rounded.clear_of; fetched = k.rounded.fetched; outside = k.rounded.outside; mirror_outside = k.rounded.mirror_outside; pins_outside = of-each (λ v x. acked_at h.side.round x.page ≡ false) outside k.rounded.pins_outside });
-      owned = k.owned;
-      served = rw d (record { worker_below = k.served.worker_below; requests = k.served.requests; waits = k.served.waits; known = k.served.known; workers_hold = k.served.workers_hold; held_by = k.served.held_by; faults = k.served.faults;
-        fault_for = k.served.fault_for; noted_for = k.served.noted_for; answer_for = k.served.answer_for; pins_serve = of-each (PinServes (at h.side.linux.workers) (at h.side.book.rows) (at h.side.linux.services)) serves-new k.served.pins_serve });
-      answered = k.answered; calls = k.calls; asked = k.asked; interrupts = k.interrupts; directions = k.directions; messages = k.messages; marked = k.marked }
+      let d = reads-put h.side.linux.pins w new in
+      record {
+        covered = rw d (record { mirror_rows = k.covered.mirror_rows; answers = k.covered.answers; not_ahead = k.covered.not_ahead; pin_rows = of-each (λ v x. Covers (at h.side.lwk.table) x.page (x.frame, x.rights)) covers k.covered.pin_rows });
+        rounded = rw d (record { clears_are = k.rounded.clears_are; acks_are = k.rounded.acks_are; clear_of = k.rounded.clear_of; fetched = k.rounded.fetched; outside = k.rounded.outside; mirror_outside = k.rounded.mirror_outside; pins_outside = of-each (λ v x. acked_at h.side.round x.page ≡ false) outside k.rounded.pins_outside });
+        owned = k.owned;
+        served = rw d (record {
+          worker_below = k.served.worker_below;
+          requests = k.served.requests;
+          waits = k.served.waits;
+          known = k.served.known;
+          workers_hold = k.served.workers_hold;
+          held_by = k.served.held_by;
+          faults = k.served.faults;
+          fault_for = k.served.fault_for;
+          noted_for = k.served.noted_for;
+          answer_for = k.served.answer_for;
+          pins_serve = of-each (PinServes (at h.side.linux.workers) (at h.side.book.rows) (at h.side.linux.services)) serves-new k.served.pins_serve;
+        });
+        answered = k.answered;
+        calls = k.calls;
+        asked = k.asked;
+        interrupts = k.interrupts;
+        directions = k.directions;
+        messages = k.messages;
+        marked = k.marked;
+      }
 
   pub pin-is : pin h.side.linux w ≡ record h.side.linux { pins = put h.side.linux.pins w new }
   unfolding pin
   pin-is = ap (pinned h.side.linux w) m.found
-    ∙ ap (λ (o : Option ℕ). record h.side.linux { pins = put h.side.linux.pins w (record { page = (next_piece (service_of h.side.linux.services (unwrap_or o 0)).progress).page; frame = m.row.0; rights = m.row.1; copied = false }) }) m.request.serving
+      ∙ ap (λ (o : Option ℕ). record h.side.linux { pins = put h.side.linux.pins w (record { page = (next_piece (service_of h.side.linux.services (unwrap_or o 0)).progress).page; frame = m.row.0; rights = m.row.1; copied = false }) }) m.request.serving
 
   pub keeps_pin : OfProcess p (after_here (Events.Pin q w) p h).side (after_here (Events.Pin q w) p h).node h.workers ring_number
   keeps_pin = subst (λ (l : LinuxSide). OfProcess p (record h.side { linux = l }) h.node h.workers ring_number) (sym pin-is) kept

@@ -63,7 +63,8 @@ module _ (rows : Reads (ReqState × Call)) (threads : Reads Thread) (ring_of : �
   placed-push : (r : ℕ) (ms : List Msg) → Placed rows threads ring_of r ms → Placed rows threads ring_of r (ms ++ m ∷ [])
   placed-push r ms h = record {
     parts = λ k. subst (IsPart (state_at rows)) (sym (of_place-push threads k ms m none)) (h.parts k);
-    own = Each-push (InOwnRing ring_of rows r) ms m h.own (own r) }
+    own = Each-push (InOwnRing ring_of rows r) ms m h.own (own r);
+  }
 
   only-push : (r : ℕ) (ms : List Msg) → OnlyOwn rows threads ring_of callers r ms → OnlyOwn rows threads ring_of callers r (ms ++ m ∷ [])
   only-push r ms h t x c a b d e = subst (AtMostInterrupt c.request) (sym (of_place-push threads x.place ms m none)) (h t x c a b d e)
@@ -84,7 +85,8 @@ module _ (rows : Reads (ReqState × Call)) (threads : Reads Thread) (ring_of : �
   pub Messages-post : (r : ℕ) (rings : List (List Msg)) → Messages rows threads ring_of callers rings → Messages rows threads ring_of callers (post r m rings)
   Messages-post r rings h = record {
     placed = posted-each (Placed rows threads ring_of) placed-push placed-alone 0 r rings h.placed;
-    only = posted-each (OnlyOwn rows threads ring_of callers) only-push only-alone 0 r rings h.only }
+    only = posted-each (OnlyOwn rows threads ring_of callers) only-push only-alone 0 r rings h.only;
+  }
 
   taken-each : (P : ℕ → List Msg → Type 0) → ((r : ℕ) (ms : List Msg) → P r (m ∷ ms) → P r ms) → (k r : ℕ) (ms : List Msg) (rs : List (List Msg)) → ring r rs ≡ m ∷ ms → EachNumbered P k rs → EachNumbered P k (with_ring r ms rs)
   taken-each P f k r ms [] e h = tt
@@ -94,7 +96,8 @@ module _ (rows : Reads (ReqState × Call)) (threads : Reads Thread) (ring_of : �
   pub Messages-take : (r : ℕ) (ms : List Msg) (rings : List (List Msg)) → ring r rings ≡ m ∷ ms → Messages rows threads ring_of callers rings → Messages rows threads ring_of callers (with_ring r ms rings)
   Messages-take r ms rings e h = record {
     placed = taken-each (Placed rows threads ring_of) (λ k ns x. record { parts = λ j. rw (none threads j) at (x.parts j); own = x.own.1 }) 0 r ms rings e h.placed;
-    only = taken-each (OnlyOwn rows threads ring_of callers) (λ k ns x t y c a b d u. rw (none threads y.place) at (x t y c a b d u)) 0 r ms rings e h.only }
+    only = taken-each (OnlyOwn rows threads ring_of callers) (λ k ns x t y c a b d u. rw (none threads y.place) at (x t y c a b d u)) 0 r ms rings e h.only;
+  }
 
 -- ---- marks
 pub Marked-services : (services services' : Reads Service) (callers : Reads Caller) (rings : List (List Msg)) → ((p : ℕ) → (service_at services' p).interrupted ≡ (service_at services p).interrupted) → Marked services callers rings → Marked services' callers rings

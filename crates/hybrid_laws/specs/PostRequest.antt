@@ -59,7 +59,7 @@ push-part state state' next (Ack ∷ ms) c nr f h = absurd h
 push-part state state' next (Fault v i a ∷ ms) c nr f h = absurd h
 
 -- what holds of each message of a ring, and of its place, holds of those of the place
-Each-place : (P : Msg → Type 0) (threads : Reads Thread) (k : ℕ) (ms : List Msg) → Each P ms → Each (λ m. P m × (is_of_place threads k m ≡ true)) (of_place threads k ms)
+pub Each-place : (P : Msg → Type 0) (threads : Reads Thread) (k : ℕ) (ms : List Msg) → Each P ms → Each (λ m. P m × (is_of_place threads k m ≡ true)) (of_place threads k ms)
 Each-place P threads k [] h = tt
 Each-place P threads k (m ∷ ms) h = go (is_of_place threads k m) refl (Each-place P threads k ms h.1)
   where

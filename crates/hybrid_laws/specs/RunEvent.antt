@@ -88,16 +88,16 @@ module _ (core n p : ℕ) (t : Tid) (h : Here) (m : may_here (Run core t n) h �
 
 -- ---- the steps
 module _ (p : ℕ) (t : Tid) (calls : Map OneCall) (free : ℕ) (born : Option (ℕ × Own)) where
-  abbrev shown : Ran → OneHere
-  shown v = record { own = record { memory = v.memory; calls = calls }; node = v.node; free = free; born = born }
+  abbrev pub ran_shown : Ran → OneHere
+  ran_shown v = record { own = record { memory = v.memory; calls = calls }; node = v.node; free = free; born = born }
 
-  pub run-after : (n : ℕ) (v : Ran) → steps_after p (replicate (length_of_run n t.0 v) (Steps.Instr t)) (shown v) ≡ shown (run_for n t.0 v)
+  pub run-after : (n : ℕ) (v : Ran) → steps_after p (replicate (length_of_run n t.0 v) (Steps.Instr t)) (ran_shown v) ≡ ran_shown (run_for n t.0 v)
   run-after zero v = refl
   run-after (suc n) v = go (ready_to_run (thread_of w.node t.0).does) (run-after n w)
     where
       w : Ran
       w = executed t.0 v
-      go : (b : Bool) → steps_after p (replicate (length_of_run n t.0 w) (Steps.Instr t)) (shown w) ≡ shown (run_for n t.0 w) → steps_after p (replicate (cond b (length_of_run n t.0 w) zero) (Steps.Instr t)) (shown w) ≡ shown (cond b (run_for n t.0 w) w)
+      go : (b : Bool) → steps_after p (replicate (length_of_run n t.0 w) (Steps.Instr t)) (ran_shown w) ≡ ran_shown (run_for n t.0 w) → steps_after p (replicate (cond b (length_of_run n t.0 w) zero) (Steps.Instr t)) (ran_shown w) ≡ ran_shown (cond b (run_for n t.0 w) w)
       go true k = k
       go false k = refl
 
@@ -111,7 +111,7 @@ module _ (p : ℕ) (t : Tid) (calls : Map OneCall) (free : ℕ) (born : Option (
       living = counted-living v.node t.0 o r.thread r.there r.thread.process ∙ r.living;
       quiet = counted-deliverable v.node t.0 o r.thread r.there ∙ r.quiet }
 
-  pub run-may : (n : ℕ) (v : Ran) → Runs v.node t.0 → instructions_in_all v.node + n ≤ v.node.limit → steps_may p (replicate (length_of_run n t.0 v) (Steps.Instr t)) (shown v) ≡ true
+  pub run-may : (n : ℕ) (v : Ran) → Runs v.node t.0 → instructions_in_all v.node + n ≤ v.node.limit → steps_may p (replicate (length_of_run n t.0 v) (Steps.Instr t)) (ran_shown v) ≡ true
   run-may zero v r l = refl
   run-may (suc n) v r l =
       let a = runs-may v.node t.0 r in
@@ -122,7 +122,7 @@ module _ (p : ℕ) (t : Tid) (calls : Map OneCall) (free : ℕ) (born : Option (
       w = executed t.0 v
       more : instructions_in_all w.node + n ≤ w.node.limit
       more = let c = counted-more v.node t.0 (instr (thread_of v.node t.0).regs v.memory) r.thread r.there r.living in omega (arith, c, l)
-      go : (ready_to_run (thread_of w.node t.0).does ≡ true → steps_may p (replicate (length_of_run n t.0 w) (Steps.Instr t)) (shown w) ≡ true) → (b : Bool) → ready_to_run (thread_of w.node t.0).does ≡ b → steps_may p (replicate (cond b (length_of_run n t.0 w) zero) (Steps.Instr t)) (shown w) ≡ true
+      go : (ready_to_run (thread_of w.node t.0).does ≡ true → steps_may p (replicate (length_of_run n t.0 w) (Steps.Instr t)) (ran_shown w) ≡ true) → (b : Bool) → ready_to_run (thread_of w.node t.0).does ≡ b → steps_may p (replicate (cond b (length_of_run n t.0 w) zero) (Steps.Instr t)) (ran_shown w) ≡ true
       go f true e = f e
       go f false e = refl
 
@@ -131,7 +131,7 @@ module _ (core n p : ℕ) (t : Tid) (h : Here) (m : may_here (Run core t n) h �
   begins = record { node = h.node; memory = memory_here h }
 
   -- the memory is written back as it is
-  pub run-shown : shown p t (each (shown_call h.side) h.side.lwk.callers) (length h.free) (shown_born h.frames h.born) (run_for n t.0 begins) ≡ shown_here (run t.0 n h)
+  pub run-shown : ran_shown p t (each (shown_call h.side) h.side.lwk.callers) (length h.free) (shown_born h.frames h.born) (run_for n t.0 begins) ≡ shown_here (run t.0 n h)
   unfolding run
   run-shown =
     let a = sym (shown-back h.side.lwk.table h.frames (run_for n t.0 begins).memory apart (run_for-rights n t.0 begins)) in

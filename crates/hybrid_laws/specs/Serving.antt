@@ -27,10 +27,10 @@ module _ (test : ReqState → Bool) (s : ReqState) (only : (x : ReqState) → te
 
   pub serves-in : is_some (at l.workers w) ≡ true → test (state_of b (serves l w)) ≡ true → Serves l b w s
   serves-in a e =
-    let x = some-is (at l.workers w) a in
-    let f = x.1 in
-    let k = in-book x.0 (rw f at e) in
-    record { number = x.0; call = k.0; serving = x.1; is = k.1 }
+      let x = some-is (at l.workers w) a in
+      let f = x.1 in
+      let k = in-book x.0 (rw f at e) in
+      record { number = x.0; call = k.0; serving = x.1; is = k.1 }
 
 held-only : (x : ReqState) → is_held x ≡ true → x ≡ Held
 held-only Held e = refl

@@ -81,7 +81,7 @@ if-rights false m x y k l = l
 do_am-rights : (i : AmIns) (r : Regs) (m : Memory) → SameRights m (do_am i r m).memory
 unfolding do_am
 do_am-rights i r m =
-  let addr = reg r i.rs1 in
+  let addr = reg r i.rs1 % 2 ^ 64 in
   let fault = outcome r m (StopFault (record { page = addr / 4096; access = WriteAccess })) in
   if-rights (is_atomic i.op) m (do_atomic i r m) (outcome (do_arith i r) m On)
     (if-rights (addr % am_size i.op == 0) m (if lacks m ReadAccess (addr / 4096) || lacks m WriteAccess (addr / 4096) then fault else do_atomic_at i addr r m) (outcome r m Misaligned)

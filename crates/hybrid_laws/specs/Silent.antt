@@ -16,14 +16,14 @@ use Rattle.std.specs.Prelude.{Bool, List, None, Option, Some, [], false, if◌th
 
 module _ (rows : Reads (ReqState × Call)) (services services' : Reads Service) (workers workers' : Reads ℕ) (rings rings' : List (List Msg)) (bs bs' : List Msg) (q : ℕ) (new : Option (ReqState × Call)) where
   pub status-one : status_in (state_in new) (call_in new) (unwrap_or (services' q) no_service) (has_empty workers' q rings') (reply_code q bs') ≡ status_by rows services workers rings bs q
-    → ((x : ℕ) → (x == q) ≡ false → unwrap_or (services' x) no_service ≡ unwrap_or (services x) no_service)
-    → ((x : ℕ) → (x == q) ≡ false → has_empty workers' x rings' ≡ has_empty workers x rings)
-    → ((x : ℕ) → (x == q) ≡ false → reply_code x bs' ≡ reply_code x bs)
-    → (x : ℕ) → status_by (with_at rows q new) services' workers' rings' bs' x ≡ status_by rows services workers rings bs x
+      → ((x : ℕ) → (x == q) ≡ false → unwrap_or (services' x) no_service ≡ unwrap_or (services x) no_service)
+      → ((x : ℕ) → (x == q) ≡ false → has_empty workers' x rings' ≡ has_empty workers x rings)
+      → ((x : ℕ) → (x == q) ≡ false → reply_code x bs' ≡ reply_code x bs)
+      → (x : ℕ) → status_by (with_at rows q new) services' workers' rings' bs' x ≡ status_by rows services workers rings bs x
   status-one own f g k x = go (x == q) refl
     where
       go : (b : Bool) → (x == q) ≡ b
-        → status_in (state_in (if b then new else rows x)) (call_in (if b then new else rows x)) (unwrap_or (services' x) no_service) (has_empty workers' x rings') (reply_code x bs') ≡ status_by rows services workers rings bs x
+          → status_in (state_in (if b then new else rows x)) (call_in (if b then new else rows x)) (unwrap_or (services' x) no_service) (has_empty workers' x rings') (reply_code x bs') ≡ status_by rows services workers rings bs x
       go true e = let y : x ≡ q = grind (arith, nat_tests, e) in rw y own
       go false e = λ i. status_in (state_in (rows x)) (call_in (rows x)) (f x e i) (g x e i) (k x e i)
 
@@ -33,6 +33,7 @@ serves-other workers w q x o s only n v = go (v == w) refl o only
   where
     none : (k : ℕ) → k ≡ q → (k == x) ≡ false
     none k e = grind (arith, nat_tests, e, n)
+
     go : (b : Bool) → (v == w) ≡ b → (o : Option ℕ) → ((k : ℕ) → o ≡ Some k → k ≡ q) → serves_it x (if b then o else workers v) ≡ serves_it x (workers v)
     go false e o f = refl
     go true e o f = let g : v ≡ w = grind (arith, nat_tests, e) in rw (g, s) (new o f ∙ sym (none q refl))
@@ -67,8 +68,8 @@ code-own x code (Fault w i a ∷ bs) e = code-own x code bs (omega (arith, e))
 module _ (frames : Map (List ℕ)) (h : Here) (side' : Side) (turns : Map Turn) (tables : side'.lwk.table ≡ h.side.lwk.table) (calls : side'.lwk.callers ≡ h.side.lwk.callers) where
   pub shown-silent : ((x : ℕ) → status_of side' x ≡ status_of h.side x) → shown_here (record h { side = side'; turns = turns }) ≡ shown_here h
   shown-silent f =
-    let k = shown-same h.frames h.side side' tables calls (λ t c e. f c.request) in
-    λ i. record { own = k i; node = h.node; free = length h.free; born = shown_born h.frames h.born }
+      let k = shown-same h.frames h.side side' tables calls (λ t c e. f c.request) in
+      λ i. record { own = k i; node = h.node; free = length h.free; born = shown_born h.frames h.born }
 
 -- a side that shows the same in its process
 pub shown-as : (h : Here) (side' : Side) → shown_own h.frames side' ≡ shown_own h.frames h.side → shown_here (record h { side = side' }) ≡ shown_here h

@@ -28,10 +28,10 @@ module _ (p : ℕ) (side : Side) (node : Node) (worker_count : ℕ) (ring_of : �
 
   pub shown-call-at : at (each (shown_call side) side.lwk.callers) call.tid.0 ≡ Some (record { marked = the-caller.0.marked; status = status_of side q })
   shown-call-at = at-collect (λ k y. Some (shown_call side y)) side.lwk.callers call.tid.0 ∙ ap (λ o. and_then o (λ y. Some (shown_call side y))) the-caller.1
-    ∙ (let s = ap (status_of side) the-caller.2 in λ k. Some (record { marked = the-caller.0.marked; status = s k }))
+      ∙ (let s = ap (status_of side) the-caller.2 in λ k. Some (record { marked = the-caller.0.marked; status = s k }))
 
   pub calls-after : (side' : Side) (y : CallStatus) → status_of side' q ≡ y → ((x : ℕ) → (x == q) ≡ false → status_of side' x ≡ status_of side x)
-    → put (each (shown_call side) side.lwk.callers) call.tid.0 (record { marked = the-caller.0.marked; status = y }) ≡ each (shown_call side') side.lwk.callers
+      → put (each (shown_call side) side.lwk.callers) call.tid.0 (record { marked = the-caller.0.marked; status = y }) ≡ each (shown_call side') side.lwk.callers
   calls-after side' y now others = calls-put side side' side.lwk.callers call.tid.0 the-caller.0 (record { marked = the-caller.0.marked; status = y }) the-caller.1
       (let e = ap (status_of side') the-caller.2 ∙ now in λ k. record { marked = the-caller.0.marked; status = e k })
       (λ u d n e. others d.request (other u d n e (d.request == q) refl))

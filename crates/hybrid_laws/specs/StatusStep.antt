@@ -21,19 +21,19 @@ module _ (side : Side) (q : ℕ) (was now : ReqState) (call : Call) (is : at sid
 
   -- of the other requests
   pub status-others : ((x : ℕ) → (x == q) ≡ false → at services x ≡ at side.linux.services x) → ((x : ℕ) → (x == q) ≡ false → (v : ℕ) → serves_it x (at workers v) ≡ serves_it x (at side.linux.workers v))
-    → (x : ℕ) → (x == q) ≡ false → status_of stepped_side x ≡ status_of side x
+      → (x : ℕ) → (x == q) ≡ false → status_of stepped_side x ≡ status_of side x
   status-others f g x e =
-    let b = reads-stated now q side.book.rows call was is in
-    let s = f x e in
-    let t = has_empty-same (at side.linux.workers) (at workers) x (g x e) side.to_linux in
-    rw (b, e, s) (ap (λ y. status_in (state_in (at side.book.rows x)) (call_in (at side.book.rows x)) (service_of side.linux.services x) y (reply_code x side.to_lwk)) t)
+      let b = reads-stated now q side.book.rows call was is in
+      let s = f x e in
+      let t = has_empty-same (at side.linux.workers) (at workers) x (g x e) side.to_linux in
+      rw (b, e, s) (ap (λ y. status_in (state_in (at side.book.rows x)) (call_in (at side.book.rows x)) (service_of side.linux.services x) y (reply_code x side.to_lwk)) t)
 
   -- of the request itself
   pub status-own : (k : Service) → at services q ≡ Some k → status_of stepped_side q ≡ status_in now call k (has_empty (at workers) q side.to_linux) (reply_code q side.to_lwk)
   status-own k s =
-    let b = reads-stated now q side.book.rows call was is in
-    let same : (q == q) ≡ true = grind (arith, nat_tests) in
-    rw (b, same, s) refl
+      let b = reads-stated now q side.book.rows call was is in
+      let same : (q == q) ≡ true = grind (arith, nat_tests) in
+      rw (b, same, s) refl
 
 pub put-own : {V : Type 0} (m : Map V) (q : ℕ) (k : V) → at (put m q k) q ≡ Some k
 put-own m q k = let same : (q == q) ≡ true = grind (arith, nat_tests) in at-put m q k q ∙ rw same refl

@@ -1,18 +1,22 @@
 -- The thread of an event: from the tests to what they say of it, and what the changes of the node leave of it.
+use Rattle.file_model.specs.Errno.{EINTR, EPIPE}
 use Rattle.hybrid_laws.specs.NodeKeeps.{is_pinned}
 use Rattle.hybrid_laws.specs.NodePrimitives.{at-change}
 use Rattle.hybrid_laws.specs.Sums.{counted_in, total-put}
 use Rattle.isa_model.specs.Instr.{Outcome}
 use Rattle.isa_model.specs.declared.stops.Stop.{Stop}
-use Rattle.kernel_model.specs.Nodes.{Node, Process, Thread, change_process, change_thread, instructions_in_all, is_living, is_stopped, lives, no_process, no_thread, process_of, ready_to_run, rests, thread_of}
-use Rattle.kernel_model.specs.Signals.{is_deliverable, next_of_sets}
-use Rattle.kernel_model.specs.Traps.{counted, does_after}
+use Rattle.kernel_model.specs.Nodes.{Node, Process, Thread, change_process, change_thread, instructions_in_all, is_living, is_stopped, lives, no_process, no_thread, process_of, ready_to_run, rests, thread_of, answered, is_called, sent_back, set_a0, set_pc, without_thread}
+use Rattle.kernel_model.specs.SignalSets.{with_signal}
+use Rattle.kernel_model.specs.Signals.{is_deliverable, next_of_sets, generate_for_thread, ignores}
+use Rattle.kernel_model.specs.Traps.{counted, does_after, finishes, is_error, returns}
 use Rattle.kernel_model.specs.declared.Does.{Does}
 use Rattle.kernel_model.specs.declared.Does.TheVariants.{Asleep, Called, InVm, InWait, Ready, Stopped}
+use Rattle.mck_word.specs.MapLaws.{at-cut}
 use Rattle.mck_word.specs.Maps.{at, change, change_row, put, total}
+use Rattle.mck_word.specs.Words.{word_of}
 use Rattle.std.proofs.Common.{ap, arith, refl, sym, ◌∙◌}
 use Rattle.std.proofs.lemmas.Bool.Decides.{nat_tests}
-use Rattle.std.specs.Prelude.{Bool, None, Option, Some, cond, false, is_some, option_map, true, unwrap_or, ℕ, ◌+◌, ◌==◌, ◌≡◌}
+use Rattle.std.specs.Prelude.{Bool, None, Option, Some, cond, false, is_some, option_map, true, unwrap_or, ℕ, ◌+◌, ◌==◌, ◌≡◌, ℤ, ◌-◌, ◌^◌}
 
 -- the thread t of the node
 abbrev pub IsThread : Node → ℕ → Thread → Type 0
@@ -109,3 +113,51 @@ module _ (node : Node) (t : ℕ) (o : Outcome) (x : Thread) (there : IsThread no
     let s = total-put (λ (z : Process). z.instructions) node.processes x.process (record y.0 { instructions = y.0.instructions + 1 }) in
     let b = ap (counted_in (λ (z : Process). z.instructions)) y.1 in
     ap (total (λ (z : Process). z.instructions)) c ∙ omega (arith, s, b)
+
+-- ---- whether the thread is Called after a change
+abbrev pub called_in : Option Thread → Bool
+called_in None = false
+called_in (Some x) = is_called x.does
+
+pub called-changed : (node : Node) (t : ℕ) (f : Thread → Thread) → ((x : Thread) → is_called (f x).does ≡ false) → called_in (at (change_thread t f node).threads t) ≡ false
+called-changed node t f h = ap called_in (at-change node.threads t f t) ∙ (let e : (t == t) ≡ true = grind (arith, nat_tests) in rw e (go (at node.threads t)))
+  where
+    go : (o : Option Thread) → called_in (option_map f o) ≡ false
+    go None = refl
+    go (Some x) = h x
+
+pub called-stays : (node : Node) (t : ℕ) (f : Thread → Thread) → ((x : Thread) → (f x).does ≡ x.does) → called_in (at (change_thread t f node).threads t) ≡ called_in (at node.threads t)
+called-stays node t f h = ap called_in (at-change node.threads t f t) ∙ (let e : (t == t) ≡ true = grind (arith, nat_tests) in rw e (go (at node.threads t)))
+  where
+    go : (o : Option Thread) → called_in (option_map f o) ≡ called_in o
+    go None = refl
+    go (Some x) = ap is_called (h x)
+
+pub answered-not : (t : ℕ) (a : ℤ) (node : Node) → called_in (at (answered t a node).threads t) ≡ false
+answered-not t a node = called-changed node t (λ x. record x { regs = set_a0 (word_of a) x.regs; does = Ready }) (λ x. refl)
+
+pub without-not : (t : ℕ) (node : Node) → called_in (at (without_thread t node).threads t) ≡ false
+without-not t node = ap called_in (at-cut node.threads t t) ∙ (let e : (t == t) ≡ true = grind (arith, nat_tests) in rw e refl)
+
+pub finished-not : (t : ℕ) (a : ℤ) (node : Node) → called_in (at (finishes t a node).threads t) ≡ false
+unfolding finishes
+finished-not t a node = go (is_living node (thread_of node t).process)
+  where
+    go : (b : Bool) → called_in (at (cond b (answered t a node) (without_thread t node)).threads t) ≡ false
+    go true = answered-not t a node
+    go false = without-not t node
+
+pub returned-not : (t : ℕ) (a : ℤ) (node : Node) → called_in (at (returns t a node).threads t) ≡ false
+unfolding returns
+returned-not t a node = go (is_living node (thread_of node t).process) (is_error EINTR a) (is_error EPIPE a)
+  where
+    b : Node
+    b = answered t a node
+    told : (c : Bool) → called_in (at (cond c b (change_thread t (λ (x : Thread). record x { pending = with_signal 13 x.pending }) b)).threads t) ≡ false
+    told true = answered-not t a node
+    told false = called-stays b t (λ x. record x { pending = with_signal 13 x.pending }) (λ x. refl) ∙ answered-not t a node
+    go : (c d e : Bool) → called_in (at (cond c (cond d (sent_back t node) (cond e (generate_for_thread t 13 b) b)) (without_thread t node)).threads t) ≡ false
+    go true true e = called-changed node t (λ x. record x { regs = set_pc (x.regs.pc + (2 ^ 64 - 4)) x.regs; back = true; does = Ready }) (λ x. refl)
+    go true false true = told (ignores (process_of b (thread_of b t).process) 13)
+    go true false false = answered-not t a node
+    go false d e = without-not t node

@@ -1,5 +1,6 @@
 -- What a trap keeps of the node, whatever it comes to.
 use Rattle.file_model.specs.Errno.{EAGAIN, EINVAL, ENOMEM, ENOSYS}
+use Rattle.file_model.specs.Paths.{child}
 use Rattle.hybrid_laws.specs.EventKeeps.{past_ecall-keeps, with_child-keeps}
 use Rattle.hybrid_laws.specs.LocalKeeps.{SleepersFree, answers-keeps, either-view, exits-keeps, exits_group-keeps, futex-keeps, kill-keeps, return-keeps, sets_clear_address-keeps, sets_robust_list-keeps, sigaction-keeps, sigpending-keeps, sigprocmask-keeps, tgkill-keeps, wait4-keeps, clones-keeps}
 use Rattle.hybrid_laws.specs.NodeKeeps.{Keeps, is_pinned}
@@ -15,7 +16,7 @@ use Rattle.kernel_model.specs.Calls.{local_call, one_of_calls}
 use Rattle.kernel_model.specs.CloneCalls.{CallDone, are_fork_flags, clone, clone_or_fork, forks, parent_number, with_child}
 use Rattle.kernel_model.specs.LocalCalls.{answers, exit_code, refuses}
 use Rattle.kernel_model.specs.MemoryCalls.{Reply as DecidedReply, Round as DecidedRound, Decision, Now, decide}
-use Rattle.kernel_model.specs.Nodes.{Node, Sleeper, Thread, answered, is_asleep, most_processes, process_of, set_pc, stop_in, thread_of}
+use Rattle.kernel_model.specs.Nodes.{Node, Sleeper, Thread, answered, is_asleep, most_processes, process_of, set_pc, stop_in, thread_of, Process}
 use Rattle.kernel_model.specs.Plans.{Delegated, Local, Plan, Unknown, Vm, plan}
 use Rattle.kernel_model.specs.Signals.{View, on_node, raised, signal_of_stop, store}
 use Rattle.kernel_model.specs.Traps.{Begins, Changes, Forks, Trapped, arguments_of, cloned, decided, past_ecall, planned, trap, trap_of_stop, Done}
@@ -34,6 +35,7 @@ pub record NodeHolds (node : Node) : Type 0 where
   pub sleeping : Sleeping node
   pub places : Places node
   pub below : (t : ℕ) (x : Thread) → at node.threads t ≡ Some x → t < node.next_number
+  pub made_below : (p : ℕ) (x : Process) → at node.processes p ≡ Some x → p < node.next_number
 
 pub next-new : (node : Node) → NodeHolds node → at node.threads node.next_number ≡ None
 next-new node h = go (at node.threads node.next_number) refl

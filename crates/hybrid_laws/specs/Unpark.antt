@@ -74,11 +74,14 @@ module _ (worker_count : ℕ) (workers : Reads ℕ) (rows : Reads (ReqState × C
     workers_hold = λ v p e. let n = not-served v p e in grind (arith, nat_tests, is, e, n, c.workers_hold v p);
     held_by = λ p v e. grind (arith, nat_tests, is, e, c.held_by p v);
     faults = λ v. grind (arith, nat_tests, is, c.faults v, c.workers_hold v q);
-    fault_for = c.fault_for; noted_for = c.noted_for; answer_for = c.answer_for;
+    fault_for = c.fault_for;
+    noted_for = c.noted_for;
+    answer_for = c.answer_for;
     pins_serve = λ v x e.
-      let k = c.pins_serve v x e in
-      let n = not-served v k.number k.serves in
-      PinServes-keeps workers workers rows rows' services services v x k k.serves (rw n k.not_faulted) (λ u. (rw n refl, refl)) }
+        let k = c.pins_serve v x e in
+        let n = not-served v k.number k.serves in
+        PinServes-keeps workers workers rows rows' services services v x k k.serves (rw n k.not_faulted) (λ u. (rw n refl, refl));
+  }
 
 module _ (p : ℕ) (h : Here) (ring_number : ℕ → ℕ) (k : OfProcess p h.side h.node h.workers ring_number) (n : Req) (e : may_here (Events.Unpark (record { 0 = p }) n) h ≡ true) where
   abbrev m : MayUnpark p h n.0
@@ -96,7 +99,7 @@ module _ (p : ℕ) (h : Here) (ring_number : ℕ → ℕ) (k : OfProcess p h.sid
   pub keeps_unpark : OfProcess p (after_here (Events.Unpark (record { 0 = p }) n) p h).side (after_here (Events.Unpark (record { 0 = p }) n) p h).node h.workers ring_number
   unfolding unpark_here unpark
   keeps_unpark = goes_on p h.side h.node h.workers ring_number k q Parked Waiting m.call m.is refl refl refl refl h.side.linux (h.side.book.waiting ++ q ∷ []) (λ x. refl) k.covered k.rounded
-    (served_unpark h.workers (at h.side.linux.workers) (at h.side.book.rows) (at h.side.linux.services) (at h.side.linux.pins) h.side.book.waiting (at h.side.lwk.noted) h.side.to_linux h.side.to_lwk k.served q m.call m.is)
+      (served_unpark h.workers (at h.side.linux.workers) (at h.side.book.rows) (at h.side.linux.services) (at h.side.linux.pins) h.side.book.waiting (at h.side.lwk.noted) h.side.to_linux h.side.to_lwk k.served q m.call m.is)
 
   abbrev caller : Caller
   caller = (the-caller p h.side h.node h.workers ring_number k q Parked m.call m.is refl).0
@@ -106,8 +109,8 @@ module _ (p : ℕ) (h : Here) (ring_number : ℕ → ℕ) (k : OfProcess p h.sid
 
   is-marked : before.interrupted ≡ true → caller.marked ≡ true
   is-marked e =
-    let c = the-caller p h.side h.node h.workers ring_number k q Parked m.call m.is refl in
-    k.marked.fetched m.call.tid.0 c.0 c.1 (ap (λ (x : ℕ). (service_of h.side.linux.services x).interrupted) c.2 ∙ e)
+      let c = the-caller p h.side h.node h.workers ring_number k q Parked m.call m.is refl in
+      k.marked.fetched m.call.tid.0 c.0 c.1 (ap (λ (x : ℕ). (service_of h.side.linux.services x).interrupted) c.2 ∙ e)
 
   marked-wakes : (i c r : Bool) → (i ≡ true → c ≡ true) → (i || r) ≡ true → (c || r) ≡ true
   marked-wakes true c r f u = ap (λ b. b || r) (f refl)
@@ -119,14 +122,14 @@ module _ (p : ℕ) (h : Here) (ring_number : ℕ → ℕ) (k : OfProcess p h.sid
 
   calls-now : put (each (shown_call h.side) h.side.lwk.callers) m.call.tid.0 (record { marked = caller.marked; status = Active before.progress }) ≡ each (shown_call side') h.side.lwk.callers
   calls-now = calls-after p h.side h.node h.workers ring_number k q Parked m.call m.is refl side' (Active before.progress)
-    (let f = reads-stated Waiting q h.side.book.rows m.call Parked m.is in let same : (q == q) ≡ true = grind (arith, nat_tests) in rw (f, same) refl)
-    (λ x f. let g = reads-stated Waiting q h.side.book.rows m.call Parked m.is in rw (g, f) refl)
+      (let f = reads-stated Waiting q h.side.book.rows m.call Parked m.is in let same : (q == q) ≡ true = grind (arith, nat_tests) in rw (f, same) refl)
+      (λ x f. let g = reads-stated Waiting q h.side.book.rows m.call Parked m.is in rw (g, f) refl)
 
   step-after : OneSteps.after_here (Steps.Wake m.call.tid) p (shown_here h) ≡ shown_here (after_here (Events.Unpark (record { 0 = p }) n) p h)
   unfolding unpark_here unpark
   step-after = let c = call-is in let x = calls-now in
-    rw c (λ i. record { own = record { memory = shown_memory h.side.lwk.table h.frames; calls = x i }; node = h.node; free = length h.free; born = shown_born h.frames h.born })
+      rw c (λ i. record { own = record { memory = shown_memory h.side.lwk.table h.frames; calls = x i }; node = h.node; free = length h.free; born = shown_born h.frames h.born })
 
   pub simulates_unpark : Simulated (Events.Unpark (record { 0 = p }) n) p h
   simulates_unpark = simulated-one (Events.Unpark (record { 0 = p }) n) p h (Steps.Wake m.call.tid)
-    (ap (λ (o : Option (ReqState × Call)). one_step (Steps.Wake (tid (call_in o).tid.0))) m.is) step-may step-after
+      (ap (λ (o : Option (ReqState × Call)). one_step (Steps.Wake (tid (call_in o).tid.0))) m.is) step-may step-after

@@ -27,14 +27,32 @@ module _ (p : ℕ) (h : Here) (ring_number : ℕ → ℕ) (k : OfProcess p h.sid
   pub keeps_unpin : OfProcess p (after_here (Events.Unpin q w) p h).side (after_here (Events.Unpin q w) p h).node h.workers ring_number
   unfolding unpin
   keeps_unpin =
-    let d = reads-cut h.side.linux.pins w in
-    record {
-      covered = rw d (record { mirror_rows = k.covered.mirror_rows; answers = k.covered.answers; not_ahead = k.covered.not_ahead; pin_rows = of-old (λ v x. Covers (at h.side.lwk.table) x.page (x.frame, x.rights)) k.covered.pin_rows });
-      rounded = rw d (record { clears_are = k.rounded.clears_are; acks_are = k.rounded.acks_are; clear_of = k.rounded.clear_of; fetched = k.rounded.fetched; outside = k.rounded.outside; mirror_outside = k.rounded.mirror_outside; pins_outside = of-old (λ v x. acked_at h.side.round x.page ≡ false) k.rounded.pins_outside });
-      owned = k.owned;
-      served = rw d (record { worker_below = k.served.worker_below; requests = k.served.requests; waits = k.served.waits; known = k.served.known; workers_hold = k.served.workers_hold; held_by = k.served.held_by; faults = k.served.faults;
-        fault_for = k.served.fault_for; noted_for = k.served.noted_for; answer_for = k.served.answer_for; pins_serve = of-old (PinServes (at h.side.linux.workers) (at h.side.book.rows) (at h.side.linux.services)) k.served.pins_serve });
-      answered = k.answered; calls = k.calls; asked = k.asked; interrupts = k.interrupts; directions = k.directions; messages = k.messages; marked = k.marked }
+      let d = reads-cut h.side.linux.pins w in
+      record {
+        covered = rw d (record { mirror_rows = k.covered.mirror_rows; answers = k.covered.answers; not_ahead = k.covered.not_ahead; pin_rows = of-old (λ v x. Covers (at h.side.lwk.table) x.page (x.frame, x.rights)) k.covered.pin_rows });
+        rounded = rw d (record { clears_are = k.rounded.clears_are; acks_are = k.rounded.acks_are; clear_of = k.rounded.clear_of; fetched = k.rounded.fetched; outside = k.rounded.outside; mirror_outside = k.rounded.mirror_outside; pins_outside = of-old (λ v x. acked_at h.side.round x.page ≡ false) k.rounded.pins_outside });
+        owned = k.owned;
+        served = rw d (record {
+          worker_below = k.served.worker_below;
+          requests = k.served.requests;
+          waits = k.served.waits;
+          known = k.served.known;
+          workers_hold = k.served.workers_hold;
+          held_by = k.served.held_by;
+          faults = k.served.faults;
+          fault_for = k.served.fault_for;
+          noted_for = k.served.noted_for;
+          answer_for = k.served.answer_for;
+          pins_serve = of-old (PinServes (at h.side.linux.workers) (at h.side.book.rows) (at h.side.linux.services)) k.served.pins_serve;
+        });
+        answered = k.answered;
+        calls = k.calls;
+        asked = k.asked;
+        interrupts = k.interrupts;
+        directions = k.directions;
+        messages = k.messages;
+        marked = k.marked;
+      }
 
 pub simulates_unpin : (p : ℕ) (h : Here) (q : Pid) (w : ℕ) → Simulated (Events.Unpin q w) p h
 unfolding unpin

@@ -17,26 +17,35 @@ pub record Booted : Type 0 where
   pub frames : Map (List ℕ)
   pub free : List ℕ
 
-abbrev guest_space : Booted → Guest → Space
+abbrev pub guest_space : Booted → Guest → Space
 guest_space b g = copied_pages (entries (guest_memory g.image g.arguments)) (record { table = no_rows; frames = b.frames; free = b.free })
 
-abbrev with_guest : ℕ → Booted → Guest → Booted
+abbrev pub with_guest : ℕ → Booted → Guest → Booted
 with_guest rings b g =
-  let sp = guest_space b g in
-  record { sides = put b.sides g.number (record (new_side rings) { lwk = record no_lwk { table = sp.table } }); frames = sp.frames; free = sp.free }
+    let sp = guest_space b g in
+    record { sides = put b.sides g.number (record (new_side rings) { lwk = record no_lwk { table = sp.table } }); frames = sp.frames; free = sp.free }
 
-abbrev zero_frames : List ℕ → Map (List ℕ)
+abbrev pub zero_frames : List ℕ → Map (List ℕ)
 zero_frames [] = no_rows
 zero_frames (f ∷ fs) = put (zero_frames fs) f zero_page
 
-abbrev booted : Job → List Image → Booted
+abbrev pub booted : Job → List Image → Booted
 booted job images = fold (with_guest job.rings) (record { sides = no_rows; frames = zero_frames (count_from 0 job.frames); free = count_from 0 job.frames }) (guests_of job images)
 
 abbrev pub boot : Job → List Image → Pair
 boot job images =
-  let b = booted job images in
-  record { node = boot_node job images; sides = b.sides; frames = b.frames; free = b.free; turns = no_rows; last = no_rows;
-    cores = job.cores; workers = job.workers; rings = job.rings }
+    let b = booted job images in
+    record {
+      node = boot_node job images;
+      sides = b.sides;
+      frames = b.frames;
+      free = b.free;
+      turns = no_rows;
+      last = no_rows;
+      cores = job.cores;
+      workers = job.workers;
+      rings = job.rings;
+    }
 
 -- the first guest for which the frames do not suffice: its number, the frames that it needs, and those that are free
 pub record Shortage : Type 0 where
@@ -44,11 +53,11 @@ pub record Shortage : Type 0 where
   pub needed : ℕ
   pub free : ℕ
 
-abbrev shortage_from : ℕ → List Guest → Option Shortage
+abbrev pub shortage_from : ℕ → List Guest → Option Shortage
 shortage_from free [] = None
 shortage_from free (g ∷ gs) =
-  let needed = needed_frames g.image in
-  cond (nat_lt free needed) (Some (record { guest = g.number; needed = needed; free = free })) (shortage_from (free - needed) gs)
+    let needed = needed_frames g.image in
+    cond (nat_lt free needed) (Some (record { guest = g.number; needed = needed; free = free })) (shortage_from (free - needed) gs)
 
 abbrev pub shortage : Job → List Image → Option Shortage
 shortage job images = shortage_from job.frames (guests_of job images)

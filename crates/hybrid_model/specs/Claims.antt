@@ -138,5 +138,5 @@ pub record Headline (job : Job) (imgs : List Image) (journal : List Event) : Typ
   pub events : AtEach Holds (boot job imgs) journal
   pub one_reply : (p q : ℕ) → replies (boot job imgs) journal p q ≤ 1
   pub answered : IsOver (state (boot job imgs) journal) → (p q : ℕ) → 1 ≤ q → q < (side_of (state (boot job imgs) journal) p).book.next
-    → (replies (boot job imgs) journal p q ≡ 1) ⊎ WaitsForEver (state (boot job imgs) journal) p q
+      → (replies (boot job imgs) journal p q ≡ 1) ⊎ WaitsForEver (state (boot job imgs) journal) p q
   pub no_stall : NoAddedStall (state (boot job imgs) journal)

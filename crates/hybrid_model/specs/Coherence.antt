@@ -354,7 +354,7 @@ pub record Messages (rows : Reads (ReqState × Call)) (threads : Reads Thread) (
 -- An Interrupt is of a number that was given. Its place is one of sixteen, and while the request is live it is that of the calling thread.
 abbrev pub InterruptIs : ℕ → Reads (ReqState × Call) → Reads Thread → Msg → Type 0
 InterruptIs next rows threads (Interrupt q place) =
-  (q.0 < next) × (place < 16) × (is_live (state_at rows q.0) ≡ true → place_in place (threads (tid_in (rows q.0))) ≡ true)
+    (q.0 < next) × (place < 16) × (is_live (state_at rows q.0) ≡ true → place_in place (threads (tid_in (rows q.0))) ≡ true)
 InterruptIs next rows threads _ = Unit {0}
 
 -- Requests, Clears, Answers and Interrupts go to Linux, all others come back

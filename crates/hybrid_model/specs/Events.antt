@@ -62,36 +62,36 @@ fetch_from r (m ∷ ms) h = with_fetched r ms (fetch_message m h.side.linux h.si
 
 unfoldable pub miss : ℕ → ℕ → Here → Here
 miss p w h = with_side (give_up_turn p w h)
-  (record h.side { book = with_state h.side.book (serves h.side.linux w) Faulted; to_lwk = h.side.to_lwk ++ fault_of h.side.linux w ∷ [] })
+    (record h.side { book = with_state h.side.book (serves h.side.linux w) Faulted; to_lwk = h.side.to_lwk ++ fault_of h.side.linux w ∷ [] })
 
 -- the request and the files after a step of the call of worker w
 abbrev pub call_stepped : ℕ → ℕ → After → LinuxSide → Here → Here
 call_stepped p w a l h =
-  with_node (with_side (give_up_turn p w h) (record h.side { linux = l; book = stepped_book h.side.linux h.side.book w a })) (set_files a.files h.node)
+    with_node (with_side (give_up_turn p w h) (record h.side { linux = l; book = stepped_book h.side.linux h.side.book w a })) (set_files a.files h.node)
 
 abbrev pub copy_to : ℕ → ℕ → ℕ → Moved → Here → Here
 copy_to p w f m h = record (call_stepped p w m.after (copied h.side.linux w m.after) h) { frames = put h.frames f m.page }
 
 unfoldable pub copy : ℕ → ℕ → Here → Here
 copy p w h =
-  let f = (pin_of h.side.linux w).frame.0 in
-  copy_to p w f (moved_by p h.side.linux h.node.files w (frame_bytes h.frames f)) h
+    let f = (pin_of h.side.linux w).frame.0 in
+    copy_to p w f (moved_by p h.side.linux h.node.files w (frame_bytes h.frames f)) h
 
 unfoldable pub act_file : ℕ → ℕ → Here → Here
 act_file p w h = let a = acted p h.side.linux h.node.files w in call_stepped p w a (stepped h.side.linux w a) h
 
 unfoldable pub park_here : ℕ → ℕ → Here → Here
 park_here p w h =
-  with_node (with_linux (park h.side.linux h.side.book w) (give_up_turn p w h)) (set_files (files_after_park h.side.linux h.node.files w) h.node)
+    with_node (with_linux (park h.side.linux h.side.book w) (give_up_turn p w h)) (set_files (files_after_park h.side.linux h.node.files w) h.node)
 
 unfoldable pub unpark_here : ℕ → ℕ → Here → Here
 unpark_here p q h =
-  record (with_side h (record h.side { book = unpark h.side.book q })) { turns = turns_after_unpark p h.side.linux h.node.files h.turns q }
+    record (with_side h (record h.side { book = unpark h.side.book q })) { turns = turns_after_unpark p h.side.linux h.node.files h.turns q }
 
 unfoldable pub finish_here : ℕ → Here → Here
 finish_here w h =
-  let x = finish h.side.linux h.side.book w in
-  with_side h (record h.side { linux = x.0; book = x.1; to_lwk = h.side.to_lwk ++ reply_of h.side.linux w ∷ [] })
+    let x = finish h.side.linux h.side.book w in
+    with_side h (record h.side { linux = x.0; book = x.1; to_lwk = h.side.to_lwk ++ reply_of h.side.linux w ∷ [] })
 
 unfoldable pub ack_clear : Here → Here
 ack_clear h = with_side h (record h.side { round = with_phase h.side.round Acked; to_lwk = h.side.to_lwk ++ Ack ∷ [] })

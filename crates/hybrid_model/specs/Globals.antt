@@ -6,12 +6,15 @@ use Rattle.file_model.specs.Files.{description_of}
 use Rattle.hybrid_model.specs.Linux.{pipe_end}
 use Rattle.hybrid_model.specs.Shown.{status_of}
 use Rattle.hybrid_model.specs.Sides.{Side, Row, Turn, Caller, state_of, service_of}
-use Rattle.hybrid_model.specs.Tallies.{Reads, tally, if_same}
+use Rattle.hybrid_model.specs.Tallies.{Reads, tally, if_same, counted}
 use Rattle.kernel_model.specs.MemoryCalls.{most_heap}
 use Rattle.kernel_model.specs.Nodes.{Node, Thread, Process, Sleeper, is_ended, is_there, has_process, is_stopped, instructions_in_all}
 use Rattle.kernel_model.specs.OneKernel.{first_free_number, CallStatus, Active, Blocked, Over}
 use Rattle.kernel_model.specs.Pages.{page_size}
 use Rattle.kernel_model.specs.declared.Does.TheVariants.{Asleep}
+use Rattle.kernel_model.specs.Plans.{Phase, Gather, Act, Scatter, Stream, delegated_calls}
+use Rattle.kernel_model.specs.Progress.{Progress}
+use Rattle.mck_word.specs.Lists.{member}
 use Rattle.mck_word.specs.Maps.{at, no_rows, total, values, count, entries}
 use Rattle.request_book.specs.declared.ReqState.{ReqState}
 use Rattle.request_book.specs.declared.ReqState.TheVariants.{Waiting, Held}
@@ -79,6 +82,30 @@ holders d s = count_by (λ (c : ℕ × Caller). is_number d (description_held (s
 abbrev pub DescriptionsHeld : Pair → Type 0
 DescriptionsHeld pair = (d : ℕ) → (description_of pair.node.files d).calls ≡ total (holders d) pair.sides
 
+-- ---- calls
+
+-- the acts that are before a call
+abbrev pub acts_left : List Phase → ℕ
+acts_left [] = 0
+acts_left (Gather rs ∷ phases) = acts_left phases
+acts_left (Act ∷ phases) = 1 + acts_left phases
+acts_left (Scatter rs ∷ phases) = acts_left phases
+acts_left (Stream rs ∷ phases) = acts_left phases
+
+-- a call under way is a delegated one, has a phase left, and found its description only by the one act that it had
+pub record IsUnderWay (p : Progress) : Type 0 where
+  pub delegated : member p.number delegated_calls ≡ true
+  pub phases : 1 ≤ length p.phases
+  pub acts : acts_left p.phases + counted p.found ≤ 1
+
+abbrev pub StatusHolds : CallStatus → Type 0
+StatusHolds (Active p) = IsUnderWay p
+StatusHolds (Blocked p) = IsUnderWay p
+StatusHolds (Over answer) = Unit {0}
+
+abbrev pub CallsHold : Side → Type 0
+CallsHold s = (t : ℕ) (c : Caller) → at s.lwk.callers t ≡ Some c → StatusHolds (status_of s c.request)
+
 -- Numbers of threads and processes are below the next one. Each thread's process was made and is not Ended, and each process that was made has a side.
 pub record Known (pair : Pair) : Type 0 where
   pub threads_below : (t : ℕ) (x : Thread) → at pair.node.threads t ≡ Some x → t < pair.node.next_number
@@ -129,6 +156,7 @@ pub record Coherent (pair : Pair) : Type 0 where
   pub turns : TurnsHold pair
   pub rings : RingsAre pair
   pub held : DescriptionsHeld pair
+  pub calls : (p : ℕ) → CallsHold (side_of pair p)
   pub known : Known pair
   pub sleeping : Sleeping pair.node
   pub places : Places pair.node

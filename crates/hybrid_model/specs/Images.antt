@@ -15,7 +15,7 @@ use Rattle.std.specs.Prelude.{Bool, List, None, Option, Some, [], false, replica
 abbrev pub one_step : Step → List Step
 one_step s = s ∷ []
 
-abbrev caller_number : Option ℕ → ℕ
+abbrev pub caller_number : Option ℕ → ℕ
 caller_number None = 0
 caller_number (Some t) = t
 

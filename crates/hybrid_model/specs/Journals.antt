@@ -42,36 +42,36 @@ abbrev pub IsOver : Pair → Type 0
 IsOver pair = (e : Event) → may pair e ≡ false
 
 -- One event of each kind for each thread, process, worker, ring, request and script line. Where an event may happen, one of these may: a Run of n instructions only where one of 1 may.
-abbrev events_of_thread : Pair → ℕ → List Event
+abbrev pub events_of_thread : Pair → ℕ → List Event
 events_of_thread pair t = let x = tid t in Run (t % pair.cores) x 1 ∷ Trap x ∷ Deliver x ∷ BeginVm x ∷ Interrupt x ∷ Wait x ∷ []
 
-abbrev events_of_worker : ℕ → ℕ → List Event
+abbrev pub events_of_worker : ℕ → ℕ → List Event
 events_of_worker p w = let x = pid p in Answer x w ∷ Assign x w ∷ Miss x w ∷ Pin x w ∷ Copy x w ∷ Unpin x w ∷ Act x w ∷ Park x w ∷ Finish x w ∷ []
 
-abbrev events_of_process : Pair → ℕ → List Event
+abbrev pub events_of_process : Pair → ℕ → List Event
 events_of_process pair p =
-  Intake (pid p) ∷ Reap (pid p) ∷ AckClear (pid p)
-  ∷ map (λ r. Fetch (pid p) r) (count_from 0 pair.rings)
-  ++ flat_map (events_of_worker p) (count_from 0 pair.workers)
-  ++ map (λ q. Unpark (pid p) (req q)) (keys (side_of pair p).book.rows)
+    Intake (pid p) ∷ Reap (pid p) ∷ AckClear (pid p)
+    ∷ map (λ r. Fetch (pid p) r) (count_from 0 pair.rings)
+    ++ flat_map (events_of_worker p) (count_from 0 pair.workers)
+    ++ map (λ q. Unpark (pid p) (req q)) (keys (side_of pair p).book.rows)
 
 abbrev pub candidates : Pair → List Event
 candidates pair =
-  flat_map (events_of_thread pair) (keys pair.node.threads)
-  ++ flat_map (events_of_process pair) (keys pair.node.processes)
-  ++ map (λ (l : ScriptLine). Script l.index) pair.node.unsent
+    flat_map (events_of_thread pair) (keys pair.node.threads)
+    ++ flat_map (events_of_process pair) (keys pair.node.processes)
+    ++ map (λ (l : ScriptLine). Script l.index) pair.node.unsent
 
 abbrev pub is_at_end : Pair → Bool
 is_at_end pair = not (list_any (may pair) (candidates pair))
 
-abbrev runs_on : Pair → ℕ → Thread → Bool
+abbrev pub runs_on : Pair → ℕ → Thread → Bool
 runs_on pair t x = ready_to_run x.does && is_living pair.node x.process
 
 -- the ending of a run that is over
-abbrev ending_of_run : Pair → Ending
+abbrev pub ending_of_run : Pair → Ending
 ending_of_run pair =
-  cond (each_row (λ p (x : Process). has_ended x.life) pair.node.processes) Done
-  (cond (some_row (runs_on pair) pair.node.threads) Limit Stalled)
+    cond (each_row (λ p (x : Process). has_ended x.life) pair.node.processes) Done
+    (cond (some_row (runs_on pair) pair.node.threads) Limit Stalled)
 
 abbrev pub ending : Pair → Ending
 ending pair = cond (is_at_end pair) (ending_of_run pair) Unfinished

@@ -121,7 +121,7 @@ new_service c = record { progress = first_progress c; interrupted = false; worke
 
 unfoldable pub fetch_request : Call → LinuxSide → Book → Option Round → Fetched
 fetch_request c l b o =
-  fetched_as (with_service l c.q.0 (new_service c)) (record (with_state b c.q.0 Waiting) { waiting = b.waiting ++ c.q.0 ∷ [] }) o
+    fetched_as (with_service l c.q.0 (new_service c)) (record (with_state b c.q.0 Waiting) { waiting = b.waiting ++ c.q.0 ∷ [] }) o
 
 -- an answer that a later Clear has overtaken is dropped, and the worker goes on without a row
 abbrev pub installed : Bool → Map Row → ℕ → Row → Map Row
@@ -130,12 +130,12 @@ installed false mirror page row = put mirror page row
 
 unfoldable pub fetch_row : ℕ → ℕ → ℕ → Row → LinuxSide → Book → Option Round → Fetched
 fetch_row w page number row l b o =
-  fetched_as (record l { mirror = installed (nat_lt number l.cleared) l.mirror page row }) (with_state b (serves l w) Held) o
+    fetched_as (record l { mirror = installed (nat_lt number l.cleared) l.mirror page row }) (with_state b (serves l w) Held) o
 
 unfoldable pub fetch_empty : ℕ → LinuxSide → Book → Option Round → Fetched
 fetch_empty w l b o =
-  let q = serves l w in
-  fetched_as (with_service l q (record (served l w) { answer = fault_answer (served l w).progress })) (with_state b q Ended) o
+    let q = serves l w in
+    fetched_as (with_service l q (record (served l w) { answer = fault_answer (served l w).progress })) (with_state b q Ended) o
 
 unfoldable pub fetch_clear : PageRange → LinuxSide → Book → Option Round → Fetched
 fetch_clear r l b o = fetched_as (record l { mirror = keep l.mirror (λ page. not (in_range r page)); cleared = l.cleared + 1 }) b (with_phase o Taken)
@@ -167,9 +167,10 @@ may_assign l b w = is_idle l w && not (length b.waiting == 0)
 
 unfoldable pub assign : LinuxSide → Book → ℕ → LinuxSide × Book
 assign l b w =
-  let q = first_number b.waiting in
-  (record l { workers = put l.workers w q; services = put l.services q (record (service_of l.services q) { worker = w }) },
-   record (with_state b q Held) { waiting = rest_numbers b.waiting })
+    let q = first_number b.waiting in (
+      record l { workers = put l.workers w q; services = put l.services q (record (service_of l.services q) { worker = w }) },
+      record (with_state b q Held) { waiting = rest_numbers b.waiting },
+    )
 
 -- ---- Miss and Pin
 
@@ -251,7 +252,7 @@ may_park l b files w = is_free_to_act l b w && is_not_ready (kind_for l files w)
 -- a request whose Interrupt was fetched ends here, with the bytes moved or -EINTR
 unfoldable pub park_stops : LinuxSide → Book → ℕ → LinuxSide × Book
 park_stops l b w =
-  (with_service l (serves l w) (record (served l w) { answer = interrupted_answer (served l w).progress }), with_state b (serves l w) Ended)
+    (with_service l (serves l w) (record (served l w) { answer = interrupted_answer (served l w).progress }), with_state b (serves l w) Ended)
 
 unfoldable pub park_blocks : LinuxSide → Book → ℕ → LinuxSide × Book
 park_blocks l b w = (record l { workers = cut l.workers w }, with_state b (serves l w) Parked)
@@ -273,20 +274,20 @@ files_after_park l files w = files_if (served l w).interrupted (served l w).prog
 -- its step is ready, and no other request has the turn of that end
 abbrev pub may_take_turn : ℕ → LinuxSide → Files → Map Turn → ℕ → Bool
 may_take_turn p l files turns q =
-  let k = service_of l.services q in
-  is_ready (next_kind files k.progress) && not (other_has_turn turns (pipe_end files k.progress) p q)
+    let k = service_of l.services q in
+    is_ready (next_kind files k.progress) && not (other_has_turn turns (pipe_end files k.progress) p q)
 
 abbrev pub may_unpark : ℕ → LinuxSide → Book → Files → Map Turn → ℕ → Bool
 may_unpark p l b files turns q =
-  let k = service_of l.services q in
-  is_parked (state_of b q) && (k.interrupted || is_file_step (next_kind files k.progress) || may_take_turn p l files turns q)
+    let k = service_of l.services q in
+    is_parked (state_of b q) && (k.interrupted || is_file_step (next_kind files k.progress) || may_take_turn p l files turns q)
 
 unfoldable pub unpark : Book → ℕ → Book
 unpark b q = record (with_state b q Waiting) { waiting = b.waiting ++ q ∷ [] }
 
 unfoldable pub turns_after_unpark : ℕ → LinuxSide → Files → Map Turn → ℕ → Map Turn
 turns_after_unpark p l files turns q =
-  cond (may_take_turn p l files turns q) (with_turn p q (pipe_end files (service_of l.services q).progress) turns) turns
+    cond (may_take_turn p l files turns q) (with_turn p q (pipe_end files (service_of l.services q).progress) turns) turns
 
 -- ---- Finish and AckClear
 
@@ -295,7 +296,7 @@ may_finish l b w = is_some (at l.workers w) && is_ended_request (state_of b (ser
 
 unfoldable pub finish : LinuxSide → Book → ℕ → LinuxSide × Book
 finish l b w =
-  (record l { workers = cut l.workers w; services = cut l.services (serves l w) }, record b { rows = cut b.rows (serves l w) })
+    (record l { workers = cut l.workers w; services = cut l.services (serves l w) }, record b { rows = cut b.rows (serves l w) })
 
 abbrev pub reply_of : LinuxSide → ℕ → Msg
 reply_of l w = Reply (record { 0 = serves l w }) (served l w).answer

@@ -42,7 +42,7 @@ reply_code q (Interrupt n place ∷ ms) = reply_code q ms
 reply_code q (Ack ∷ ms) = reply_code q ms
 reply_code q (Fault w page a ∷ ms) = reply_code q ms
 
-abbrev ended_if : Bool → Progress → CallStatus
+abbrev pub ended_if : Bool → Progress → CallStatus
 ended_if true p = Over (fault_answer p)
 ended_if false p = Active p
 
@@ -58,7 +58,7 @@ status_in Replied c k empty code = Over code
 
 abbrev pub status_by : Reads (ReqState × Call) → Reads Service → Reads ℕ → List (List Msg) → List Msg → ℕ → CallStatus
 status_by rows services workers rings bs q =
-  status_in (state_in (rows q)) (call_in (rows q)) (unwrap_or (services q) no_service) (has_empty workers q rings) (reply_code q bs)
+    status_in (state_in (rows q)) (call_in (rows q)) (unwrap_or (services q) no_service) (has_empty workers q rings) (reply_code q bs)
 
 abbrev pub status_of : Side → ℕ → CallStatus
 status_of s q = status_by (at s.book.rows) (at s.linux.services) (at s.linux.workers) s.to_linux s.to_lwk q

@@ -11,6 +11,7 @@ use Rattle.mck_word.specs.declared.Access.{Access}
 use Rattle.mck_word.specs.declared.Frame.{Frame}
 use Rattle.mck_word.specs.declared.PageRange.{PageRange}
 use Rattle.page_pins.specs.declared.Pin.{Pin}
+use Rattle.request_book.specs.Requests.{Requests}
 use Rattle.request_book.specs.declared.ReqState.{ReqState}
 use Rattle.request_book.specs.declared.ReqState.TheVariants.{Replied}
 use Rattle.std.specs.Prelude.{Bool, List, None, Option, Some, [], false, if◌then◌else◌, pos, replicate, true, unwrap_or, ℕ, ℤ}
@@ -56,10 +57,8 @@ pub record LinuxSide : Type 0 where
   pub cleared : ℕ
 
 -- the requests that are not replied, by number, and those that wait, in order
-pub record Book : Type 0 where
-  pub next : ℕ
-  pub rows : Map (ReqState × Call)
-  pub waiting : List ℕ
+abbrev pub Book : Type 0
+Book = Requests
 
 pub record Side : Type 0 where
   pub lwk : LwkSide

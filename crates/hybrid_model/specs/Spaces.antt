@@ -60,8 +60,8 @@ drop_page i sp = record sp { table = cut sp.table i; free = give_back (at sp.tab
 -- a page at the lowest free frame
 abbrev pub page_at_lowest : Rights → List ℕ → ℕ → Space → Space
 page_at_lowest rights bytes i sp =
-  let f = first_number sp.free in
-  record { table = put sp.table i (record { 0 = f }, rights); frames = put sp.frames f bytes; free = rest_numbers sp.free }
+    let f = first_number sp.free in
+    record { table = put sp.table i (record { 0 = f }, rights); frames = put sp.frames f bytes; free = rest_numbers sp.free }
 
 unfoldable pub add_page : Rights → ℕ → Space → Space
 add_page rights i sp = page_at_lowest rights zero_page i sp

@@ -5,7 +5,7 @@ use Rattle.mck_word.specs.Word.{sext_of}
 use Rattle.isa_model.specs.declared.names.Op.{Op}
 use Rattle.isa_model.specs.declared.names.Op.TheVariants.{Add, Sub, Sll, Slt, Sltu, Xor, Srl, Sra, Or, And, Addi, Slli, Slti, Sltiu, Xori, Srli, Srai, Ori, Andi, Addw, Subw, Sllw, Srlw, Sraw, Addiw, Slliw, Srliw, Sraiw, Beq, Bne, Blt, Bge, Bltu, Bgeu, Lb, Lh, Lw, Lbu, Lhu, Lwu, Sb, Sh, Sw}
 
-abbrev one_if : Bool → ℕ
+abbrev pub one_if : Bool → ℕ
 one_if true = 1
 one_if false = 0
 

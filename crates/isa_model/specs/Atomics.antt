@@ -22,10 +22,10 @@ pub record AmRow : Type 0 where
   pub funct3 : ℕ
   pub top : ℕ
 
-abbrev m_row : AmOp → ℕ → ℕ → AmRow
+abbrev pub m_row : AmOp → ℕ → ℕ → AmRow
 m_row o c f = record { op = o; opcode = c; funct3 = f; top = 1 }
 
-abbrev a_row : AmOp → ℕ → ℕ → AmRow
+abbrev pub a_row : AmOp → ℕ → ℕ → AmRow
 a_row o f t = record { op = o; opcode = 0x2f; funct3 = f; top = t }
 
 abbrev pub am_table : List AmRow
@@ -35,22 +35,22 @@ am_table =
     ∷ a_row AddW 2 0x00 ∷ a_row SwapW 2 0x01 ∷ a_row XorW 2 0x04 ∷ a_row OrW 2 0x08 ∷ a_row AndW 2 0x0c ∷ a_row MinW 2 0x10 ∷ a_row MaxW 2 0x14 ∷ a_row MinuW 2 0x18 ∷ a_row MaxuW 2 0x1c
     ∷ a_row AddD 3 0x00 ∷ a_row SwapD 3 0x01 ∷ a_row XorD 3 0x04 ∷ a_row OrD 3 0x08 ∷ a_row AndD 3 0x0c ∷ a_row MinD 3 0x10 ∷ a_row MaxD 3 0x14 ∷ a_row MinuD 3 0x18 ∷ a_row MaxuD 3 0x1c ∷ []
 
-abbrev field : ℕ → ℕ → ℕ → ℕ
+abbrev pub field : ℕ → ℕ → ℕ → ℕ
 field low len w = w / 2 ^ low % 2 ^ len
 
-abbrev is_amo_row : AmRow → Bool
+abbrev pub is_amo_row : AmRow → Bool
 is_amo_row row = row.opcode == 0x2f
 
-abbrev top_of : AmRow → ℕ → ℕ
+abbrev pub top_of : AmRow → ℕ → ℕ
 top_of row w = if is_amo_row row then field 27 5 w else field 25 7 w
 
 abbrev pub am_fits : ℕ → AmRow → Bool
 am_fits w row = w % 128 == row.opcode && field 12 3 w == row.funct3 && top_of row w == row.top
 
-abbrev am_read : ℕ → AmRow → AmIns
+abbrev pub am_read : ℕ → AmRow → AmIns
 am_read w row = record { op = row.op; rd = field 7 5 w; rs1 = field 15 5 w; rs2 = field 20 5 w; order = if is_amo_row row then field 25 2 w else 0 }
 
-abbrev am_read_any : ℕ → Option AmRow → Option AmIns
+abbrev pub am_read_any : ℕ → Option AmRow → Option AmIns
 am_read_any w None = None
 am_read_any w (Some row) = Some (am_read w row)
 
@@ -92,58 +92,58 @@ am_size _ = 4
 abbrev pub old_value : AmOp → ℕ → ℕ
 old_value op v = if am_size op == 4 then sext_of 32 v else v
 
-abbrev signed_word : ℕ → ℤ
+abbrev pub signed_word : ℕ → ℤ
 signed_word a = cast_signed w64 a
 
-abbrev word : ℤ → ℕ
+abbrev pub word : ℤ → ℕ
 word z = cast_unsigned w64 z
 
-abbrev size_of : ℤ → ℕ
+abbrev pub size_of : ℤ → ℕ
 size_of (pos n) = n
 size_of (negsuc n) = n + 1
 
-abbrev is_negative : ℤ → Bool
+abbrev pub is_negative : ℤ → Bool
 is_negative (pos n) = false
 is_negative (negsuc n) = true
 
-abbrev with_sign : Bool → ℕ → ℤ
+abbrev pub with_sign : Bool → ℕ → ℤ
 with_sign true n = neg_ℤ (pos n)
 with_sign false n = pos n
 
-abbrev differ : Bool → Bool → Bool
+abbrev pub differ : Bool → Bool → Bool
 differ true b = not b
 differ false b = b
 
 -- the quotient towards zero, and the remainder with the sign of the dividend
-abbrev quotient : ℤ → ℤ → ℤ
+abbrev pub quotient : ℤ → ℤ → ℤ
 quotient a b = with_sign (differ (is_negative a) (is_negative b)) (size_of a / size_of b)
 
-abbrev remainder : ℤ → ℤ → ℤ
+abbrev pub remainder : ℤ → ℤ → ℤ
 remainder a b = with_sign (is_negative a) (size_of a % size_of b)
 
-abbrev all_bits : ℕ
+abbrev pub all_bits : ℕ
 all_bits = 2 ^ 64 - 1
 
-abbrev unless_zero : ℕ → ℕ → ℕ → ℕ
+abbrev pub unless_zero : ℕ → ℕ → ℕ → ℕ
 unless_zero b zero_case other = if b == 0 then zero_case else other
 
-abbrev low : ℕ → ℕ
+abbrev pub low : ℕ → ℕ
 low a = a % 2 ^ 32
 
 -- the signed number of the low 32 bits
-abbrev low_signed : ℕ → ℤ
+abbrev pub low_signed : ℕ → ℤ
 low_signed a = signed_word (sext_of 32 a)
 
-abbrev lesser : (ℕ → ℕ → Bool) → ℕ → ℕ → ℕ
+abbrev pub lesser : (ℕ → ℕ → Bool) → ℕ → ℕ → ℕ
 lesser before a b = if before b a then b else a
 
-abbrev before_signed : ℕ → ℕ → Bool
+abbrev pub before_signed : ℕ → ℕ → Bool
 before_signed a b = int_lt (signed_word a) (signed_word b)
 
-abbrev before_low_signed : ℕ → ℕ → Bool
+abbrev pub before_low_signed : ℕ → ℕ → Bool
 before_low_signed a b = int_lt (low_signed a) (low_signed b)
 
-abbrev turned : (ℕ → ℕ → Bool) → ℕ → ℕ → Bool
+abbrev pub turned : (ℕ → ℕ → Bool) → ℕ → ℕ → Bool
 turned before a b = before b a
 
 -- The result of an operation that computes; what an atomic one stores, where a is the old value and b the register's.

@@ -66,7 +66,7 @@ pub record Fixed : Type 0 where
   pub len : ℕ
   pub value : ℕ
 
-abbrev at : ℕ → ℕ → ℕ → Fixed
+abbrev pub at : ℕ → ℕ → ℕ → Fixed
 at l n v = record { lo = l; len = n; value = v }
 
 -- the fixed bits of a row in a shape

@@ -113,7 +113,7 @@ do_atomic_at i addr r m =
 -- both rights are needed, and the fault names the write access
 abbrev pub do_atomic : AmIns → Regs → Memory → Outcome
 do_atomic i r m =
-    let addr = reg r i.rs1 in
+    let addr = reg r i.rs1 % 2 ^ 64 in
     if addr % am_size i.op == 0 then
     (if lacks m Read (addr / 4096) || lacks m Write (addr / 4096) then outcome r m (Fault (record { page = addr / 4096; access = Write }))
     else do_atomic_at i addr r m)

@@ -16,25 +16,25 @@ use Rattle.std.specs.Prelude.{ℕ, ◌+◌, ◌-◌, ◌*◌, ◌/◌, max, List
 -- ---- pages
 
 -- the bytes of a segment's page: those of its file part that lie there, and zeros
-abbrev segment_page : Segment → ℕ → List ℕ
+abbrev pub segment_page : Segment → ℕ → List ℕ
 segment_page s page =
-  let start = page * page_size in
-  take page_size (replicate (s.addr - start) 0 ++ drop (start - s.addr) s.bytes ++ zero_page)
+    let start = page * page_size in
+    take page_size (replicate (s.addr - start) 0 ++ drop (start - s.addr) s.bytes ++ zero_page)
 
-abbrev page_with : Rights → List ℕ → Page
+abbrev pub page_with : Rights → List ℕ → Page
 page_with rights bytes = record { rights = rights; bytes = bytes }
 
-abbrev add_segment : Memory → Segment → Memory
+abbrev pub add_segment : Memory → Segment → Memory
 add_segment m s = fold (λ (n : Memory) page. put n page (page_with s.rights (segment_page s page))) m (pages_in (pages_of s.addr s.mem))
 
-abbrev stack_pages : ℕ
+abbrev pub stack_pages : ℕ
 stack_pages = 16
 
-abbrev add_stack : Memory → Memory
+abbrev pub add_stack : Memory → Memory
 add_stack m = fold (λ (n : Memory) page. put n page (page_with (rights_of_prot 3) zero_page)) m (count_from (page_number trampoline - stack_pages) stack_pages)
 
 -- `addi a7,x0,139` and `ecall`, then zeros
-abbrev add_trampoline : Memory → Memory
+abbrev pub add_trampoline : Memory → Memory
 add_trampoline m = put m (page_number trampoline) (page_with (rights_of_prot 5) (take page_size (little_endian 4 0x08b00893 ++ little_endian 4 0x73 ++ zero_page)))
 
 -- how many frames a guest's boot needs
@@ -43,32 +43,32 @@ needed_frames image = length (flat_map (λ s. pages_in (pages_of s.addr s.mem)) 
 
 -- ---- the stack's top
 
-abbrev auxiliary_bytes : ℕ
+abbrev pub auxiliary_bytes : ℕ
 auxiliary_bytes = 0x3fffffeff0
 
-abbrev strings : List (List ℕ) → List ℕ
+abbrev pub strings : List (List ℕ) → List ℕ
 strings arguments = flat_map (λ a. a ++ 0 ∷ []) arguments
 
-abbrev strings_address : List (List ℕ) → ℕ
+abbrev pub strings_address : List (List ℕ) → ℕ
 strings_address arguments = auxiliary_bytes - length (strings arguments)
 
 abbrev pub stack_pointer : List (List ℕ) → ℕ
 stack_pointer arguments = (strings_address arguments - 8 * (length arguments + 17)) / 16 * 16
 
 -- the addresses of the strings, from the first one's on
-abbrev addresses_from : ℕ → List (List ℕ) → List ℕ
+abbrev pub addresses_from : ℕ → List (List ℕ) → List ℕ
 addresses_from a [] = []
 addresses_from a (s ∷ ss) = a ∷ addresses_from (a + length s + 1) ss
 
 -- the count, the argument addresses, two zeros, and the pairs PHDR, PHENT, PHNUM, PAGESZ, ENTRY, RANDOM and the null pair
-abbrev stack_words : Image → List (List ℕ) → List ℕ
+abbrev pub stack_words : Image → List (List ℕ) → List ℕ
 stack_words image arguments =
-  length arguments ∷ addresses_from (strings_address arguments) arguments
-  ++ (0 ∷ 0 ∷ 3 ∷ image.phdr ∷ 4 ∷ 56 ∷ 5 ∷ image.phnum ∷ 6 ∷ page_size ∷ 9 ∷ image.entry ∷ 25 ∷ auxiliary_bytes ∷ 0 ∷ 0 ∷ [])
+    length arguments ∷ addresses_from (strings_address arguments) arguments
+    ++ (0 ∷ 0 ∷ 3 ∷ image.phdr ∷ 4 ∷ 56 ∷ 5 ∷ image.phnum ∷ 6 ∷ page_size ∷ 9 ∷ image.entry ∷ 25 ∷ auxiliary_bytes ∷ 0 ∷ 0 ∷ [])
 
-abbrev with_stack_top : Image → List (List ℕ) → Memory → Memory
+abbrev pub with_stack_top : Image → List (List ℕ) → Memory → Memory
 with_stack_top image arguments m =
-  write_bytes (write_bytes (write_bytes m auxiliary_bytes (count_from 0 16))
+    write_bytes (write_bytes (write_bytes m auxiliary_bytes (count_from 0 16))
     (strings_address arguments) (strings arguments))
     (stack_pointer arguments) (flat_map (little_endian 8) (stack_words image arguments))
 
@@ -80,7 +80,7 @@ guest_memory image arguments = with_stack_top image arguments (add_trampoline (a
 abbrev pub guest_regs : Image → List (List ℕ) → Regs
 guest_regs image arguments = set_reg 2 (stack_pointer arguments) (record no_regs { pc = image.entry })
 
-abbrev segment_end : Segment → ℕ
+abbrev pub segment_end : Segment → ℕ
 segment_end s = s.addr + s.mem
 
 -- the highest segment end, rounded up to a page

@@ -19,29 +19,32 @@ use Rattle.std.specs.Prelude.{find, Bool, List, None, Option, Some, cond, false,
 
 abbrev pub lowest_address : ℕ
 lowest_address = 0x10000
+
 abbrev pub highest_address : ℕ
 highest_address = 0x3ffffff000
+
 abbrev pub highest_gap_end : ℕ
 highest_gap_end = 0x3f00000000
+
 abbrev pub most_heap : ℕ
 most_heap = 0x4000000
 
-abbrev pages_for : ℕ → ℕ
+abbrev pub pages_for : ℕ → ℕ
 pages_for len = page_end len
 
-abbrev is_inside : ℕ → ℕ → Bool
+abbrev pub is_inside : ℕ → ℕ → Bool
 is_inside address len = nat_le lowest_address address && nat_le (address + pages_for len * page_size) highest_address
 
-abbrev range_for : ℕ → ℕ → PageRange
+abbrev pub range_for : ℕ → ℕ → PageRange
 range_for address len = range (page_number address) (page_number address + pages_for len)
 
-abbrev is_aligned : ℕ → Bool
+abbrev pub is_aligned : ℕ → Bool
 is_aligned address = address % page_size == 0
 
 -- ---- rights
 
 -- a page with the write right also has the read right
-abbrev read_bit : ℕ → ℕ
+abbrev pub read_bit : ℕ → ℕ
 read_bit prot = cond (has_bit 0 prot || has_bit 1 prot) 1 0
 
 unfoldable pub rights_of_prot : ℕ → Rights
@@ -50,7 +53,7 @@ rights_of_prot prot = record { 0 = read_bit prot + cond (has_bit 1 prot) 2 0 + c
 abbrev pub heap_rights : Rights
 heap_rights = rights_of_prot 3
 
-abbrev lacks_of : Rights → Rights → Access → Bool
+abbrev pub lacks_of : Rights → Rights → Access → Bool
 lacks_of old new a = allows a old && not (allows a new)
 
 -- whether the new rights lack one of the old ones
@@ -62,28 +65,28 @@ lessens old new = lacks_of old new Read || lacks_of old new Write || lacks_of ol
 abbrev pub present_in : Memory → PageRange → List ℕ
 present_in m r = filter (in_range r) (keys m)
 
-abbrev count_present : Memory → PageRange → ℕ
+abbrev pub count_present : Memory → PageRange → ℕ
 count_present m r = length (present_in m r)
 
-abbrev any_lessened : Memory → PageRange → Rights → Bool
+abbrev pub any_lessened : Memory → PageRange → Rights → Bool
 any_lessened m r rights = some_row (λ page (x : Page). in_range r page && lessens x.rights rights) m
 
-abbrev all_present : Memory → PageRange → Bool
+abbrev pub all_present : Memory → PageRange → Bool
 all_present m r = count_present m r == pages_count r
 
 -- ---- gaps
 
-abbrev no_page_in : Memory → PageRange → Bool
+abbrev pub no_page_in : Memory → PageRange → Bool
 no_page_in m r = count_present m r == 0
 
-abbrev gap_below : ℕ → ℕ → PageRange
+abbrev pub gap_below : ℕ → ℕ → PageRange
 gap_below n high = range (high - n) high
 
 -- the ends that a gap which can't be moved up may have, the highest first: the limit, and each present page
-abbrev gap_ends : Memory → List ℕ
+abbrev pub gap_ends : Memory → List ℕ
 gap_ends m = sorted_by (λ a b. nat_lt b a) (page_number highest_gap_end ∷ keys m)
 
-abbrev is_gap : Memory → ℕ → ℕ → Bool
+abbrev pub is_gap : Memory → ℕ → ℕ → Bool
 is_gap m n high = nat_le high (page_number highest_gap_end) && nat_le (page_number lowest_address + n) high && no_page_in m (gap_below n high)
 
 -- the highest gap of n pages, by its end
@@ -100,7 +103,7 @@ pub record Effect : Type 0 where
   pub rights : Rights
   pub program_break : ℕ
 
-abbrev nothing : PageRange
+abbrev pub nothing : PageRange
 nothing = range 0 0
 
 abbrev pub effect_of : Process → Change → Effect
@@ -110,7 +113,10 @@ effect_of p (Protect r rights) = record { dropped = nothing; added = nothing; pr
 effect_of p (Brk a) = record {
   dropped = range (page_end a) (page_end p.program_break);
   added = range (page_end p.program_break) (page_end a);
-  protected = nothing; rights = heap_rights; program_break = a }
+  protected = nothing;
+  rights = heap_rights;
+  program_break = a;
+}
 
 -- what the call answers once its change is made
 abbrev pub answer_of_change : Change → ℤ
@@ -127,83 +133,83 @@ pub data Decision : Type 0 where
   Now : Change → Decision
   Round : Change → Decision
 
-abbrev refuse : ℕ → Decision
+abbrev pub refuse : ℕ → Decision
 refuse errno = Reply (refused errno)
 
-abbrev round_or_now : Bool → Change → Decision
+abbrev pub round_or_now : Bool → Change → Decision
 round_or_now true c = Round c
 round_or_now false c = Now c
 
 -- ENOMEM exactly where the pages added, less those replaced, exceed the free frames
-abbrev exceeds : Memory → ℕ → PageRange → Bool
+abbrev pub exceeds : Memory → ℕ → PageRange → Bool
 exceeds m free r = nat_lt (free + count_present m r) (pages_count r)
 
-abbrev map_fixed : Memory → ℕ → PageRange → Rights → Decision
+abbrev pub map_fixed : Memory → ℕ → PageRange → Rights → Decision
 map_fixed m free r rights =
-  cond (nat_lt 0 (count_present m r)) (Round (ChangeMap r rights))
-  (cond (exceeds m free r) (refuse ENOMEM) (Now (ChangeMap r rights)))
+    cond (nat_lt 0 (count_present m r)) (Round (ChangeMap r rights))
+    (cond (exceeds m free r) (refuse ENOMEM) (Now (ChangeMap r rights)))
 
-abbrev map_anywhere : Memory → ℕ → ℕ → Rights → Decision
+abbrev pub map_anywhere : Memory → ℕ → ℕ → Rights → Decision
 map_anywhere m free n rights =
-  cond (nat_lt free n) (refuse ENOMEM)
-  (elim (highest_gap m n) [ None ↦ refuse ENOMEM | Some high ↦ Now (ChangeMap (gap_below n high) rights) ])
+    cond (nat_lt free n) (refuse ENOMEM)
+    (elim (highest_gap m n) [ None ↦ refuse ENOMEM | Some high ↦ Now (ChangeMap (gap_below n high) rights) ])
 
-abbrev is_fixed : ℕ → Bool
+abbrev pub is_fixed : ℕ → Bool
 is_fixed flags = has_bit 4 flags
 
-abbrev mmap : Memory → ℕ → ℕ → ℕ → ℕ → ℕ → Decision
+abbrev pub mmap : Memory → ℕ → ℕ → ℕ → ℕ → ℕ → Decision
 mmap m free address len prot flags =
-  cond (len == 0 || nat_lt 7 prot || not (flags % 4 == 2) || not (has_bit 5 flags)
-      || (is_fixed flags && (not (is_aligned address) || not (is_inside address len)))) (refuse EINVAL)
-  (cond (is_fixed flags) (map_fixed m free (range_for address len) (rights_of_prot prot))
-  (map_anywhere m free (pages_for len) (rights_of_prot prot)))
+    cond (len == 0 || nat_lt 7 prot || not (flags % 4 == 2) || not (has_bit 5 flags)
+    || (is_fixed flags && (not (is_aligned address) || not (is_inside address len)))) (refuse EINVAL)
+    (cond (is_fixed flags) (map_fixed m free (range_for address len) (rights_of_prot prot))
+    (map_anywhere m free (pages_for len) (rights_of_prot prot)))
 
-abbrev munmap : Memory → ℕ → ℕ → Decision
+abbrev pub munmap : Memory → ℕ → ℕ → Decision
 munmap m address len =
-  cond (not (is_aligned address) || len == 0 || not (is_inside address len)) (refuse EINVAL)
-  (cond (nat_lt 0 (count_present m (range_for address len))) (Round (Unmap (range_for address len))) (Reply (pos 0)))
+    cond (not (is_aligned address) || len == 0 || not (is_inside address len)) (refuse EINVAL)
+    (cond (nat_lt 0 (count_present m (range_for address len))) (Round (Unmap (range_for address len))) (Reply (pos 0)))
 
-abbrev protect_range : Memory → PageRange → Rights → Decision
+abbrev pub protect_range : Memory → PageRange → Rights → Decision
 protect_range m r rights =
-  cond (any_lessened m r rights) (Round (Protect r rights))
-  (cond (all_present m r) (Now (Protect r rights)) (refuse ENOMEM))
+    cond (any_lessened m r rights) (Round (Protect r rights))
+    (cond (all_present m r) (Now (Protect r rights)) (refuse ENOMEM))
 
-abbrev mprotect : Memory → ℕ → ℕ → ℕ → Decision
+abbrev pub mprotect : Memory → ℕ → ℕ → ℕ → Decision
 mprotect m address len prot =
-  cond (not (is_aligned address) || nat_lt 7 prot) (refuse EINVAL)
-  (cond (len == 0) (Reply (pos 0))
-  (cond (not (is_inside address len)) (refuse ENOMEM)
-  (protect_range m (range_for address len) (rights_of_prot prot))))
+    cond (not (is_aligned address) || nat_lt 7 prot) (refuse EINVAL)
+    (cond (len == 0) (Reply (pos 0))
+    (cond (not (is_inside address len)) (refuse ENOMEM)
+    (protect_range m (range_for address len) (rights_of_prot prot))))
 
-abbrev brk_up : Process → Memory → ℕ → ℕ → Decision
+abbrev pub brk_up : Process → Memory → ℕ → ℕ → Decision
 brk_up p m free a =
-  let r = range (page_end p.program_break) (page_end a) in
-  cond (nat_lt 0 (count_present m r) || nat_lt free (pages_count r)) (Reply (pos p.program_break)) (Now (Brk a))
+    let r = range (page_end p.program_break) (page_end a) in
+    cond (nat_lt 0 (count_present m r) || nat_lt free (pages_count r)) (Reply (pos p.program_break)) (Now (Brk a))
 
-abbrev brk_down : Process → Memory → ℕ → Decision
+abbrev pub brk_down : Process → Memory → ℕ → Decision
 brk_down p m a =
-  let r = range (page_end a) (page_end p.program_break) in
-  round_or_now (nat_lt 0 (count_present m r)) (Brk a)
+    let r = range (page_end a) (page_end p.program_break) in
+    round_or_now (nat_lt 0 (count_present m r)) (Brk a)
 
-abbrev brk : Process → Memory → ℕ → ℕ → Decision
+abbrev pub brk : Process → Memory → ℕ → ℕ → Decision
 brk p m free a =
-  cond (nat_lt a p.heap_base || nat_lt (p.heap_base + most_heap) a) (Reply (pos p.program_break))
-  (cond (nat_lt a p.program_break) (brk_down p m a) (brk_up p m free a))
+    cond (nat_lt a p.heap_base || nat_lt (p.heap_base + most_heap) a) (Reply (pos p.program_break))
+    (cond (nat_lt a p.program_break) (brk_down p m a) (brk_up p m free a))
 
 -- an int argument that has to be from 0 to 7: its low 32 bits
-abbrev low_word : ℕ → ℕ
+abbrev pub low_word : ℕ → ℕ
 low_word n = n % 2 ^ 32
 
 abbrev pub decide : Process → Memory → ℕ → ℕ → List ℕ → Decision
 decide p m free number arguments =
-  let a0 = get_or arguments 0 0 in
-  let a1 = get_or arguments 1 0 in
-  let a2 = get_or arguments 2 0 in
-  let a3 = get_or arguments 3 0 in
-  cond (number == 222) (mmap m free a0 a1 (low_word a2) (low_word a3))
-  (cond (number == 215) (munmap m a0 a1)
-  (cond (number == 226) (mprotect m a0 a1 (low_word a2))
-  (brk p m free a0)))
+    let a0 = get_or arguments 0 0 in
+    let a1 = get_or arguments 1 0 in
+    let a2 = get_or arguments 2 0 in
+    let a3 = get_or arguments 3 0 in
+    cond (number == 222) (mmap m free a0 a1 (low_word a2) (low_word a3))
+    (cond (number == 215) (munmap m a0 a1)
+    (cond (number == 226) (mprotect m a0 a1 (low_word a2))
+    (brk p m free a0)))
 
 -- ---- finishing a round: a refusal, or none where the change is made
 abbrev pub refusal_at_end : Process → Memory → ℕ → Change → Option ℤ

@@ -54,7 +54,7 @@ no_own = record { memory = no_rows; calls = no_rows }
 abbrev pub one_here : OneKernel → ℕ → OneHere
 one_here one p = record { own = unwrap_or (at one.own p) no_own; node = one.node; free = one.free; born = None }
 
-abbrev with_born : Map Own → Option (ℕ × Own) → Map Own
+abbrev pub with_born : Map Own → Option (ℕ × Own) → Map Own
 with_born m None = m
 with_born m (Some b) = put m b.0 b.1
 
@@ -63,17 +63,17 @@ put_one_here one p h = record { own = with_born (put one.own p h.own) h.born; no
 
 -- ---- files at the boot
 
-abbrev bytes_of_input : Option InputLine → List ℕ
+abbrev pub bytes_of_input : Option InputLine → List ℕ
 bytes_of_input None = []
 bytes_of_input (Some l) = l.bytes
 
-abbrev input_of : Job → ℕ → List ℕ
+abbrev pub input_of : Job → ℕ → List ℕ
 input_of job guest = bytes_of_input (find (λ (l : InputLine). l.guest == guest) job.inputs)
 
-abbrev with_line : Files → FileLine → Files
+abbrev pub with_line : Files → FileLine → Files
 with_line files line = with_file line.path line.bytes files
 
-abbrev with_consoles : Job → List ℕ → Files → Files
+abbrev pub with_consoles : Job → List ℕ → Files → Files
 with_consoles job [] files = files
 with_consoles job (guest ∷ guests) files = with_consoles job guests (with_console guest (input_of job guest) files)
 
@@ -88,7 +88,7 @@ pub record Guest : Type 0 where
   pub arguments : List (List ℕ)
   pub image : Image
 
-abbrev guests_from : ℕ → List GuestLine → List Image → List Guest
+abbrev pub guests_from : ℕ → List GuestLine → List Image → List Guest
 guests_from n [] images = []
 guests_from n (a ∷ as_) [] = []
 guests_from n (a ∷ as_) (image ∷ images) = record { number = n; arguments = a.args; image = image } ∷ guests_from (n + 1) as_ images
@@ -96,10 +96,10 @@ guests_from n (a ∷ as_) (image ∷ images) = record { number = n; arguments = 
 unfoldable pub guests_of : Job → List Image → List Guest
 guests_of job images = guests_from 1 job.guests images
 
-abbrev guest_process : Guest → Process
+abbrev pub guest_process : Guest → Process
 guest_process g = record no_process { life = Living; actions = replicate 64 no_action; program_break = heap_base_of g.image; heap_base = heap_base_of g.image }
 
-abbrev guest_thread : Guest → Thread
+abbrev pub guest_thread : Guest → Thread
 guest_thread g = record no_thread { process = g.number; regs = guest_regs g.image g.arguments }
 
 abbrev pub script_lines : ℕ → List SignalLine → List ScriptLine
@@ -118,10 +118,15 @@ abbrev pub boot_node : Job → List Image → Node
 boot_node job images = record {
   processes = by_guest guest_process (guests_of job images);
   threads = by_guest guest_thread (guests_of job images);
-  sleepers = []; files = boot_files job; unsent = script_lines 0 job.signals;
-  next_number = first_free_number; frame_count = job.frames; limit = job.limit }
+  sleepers = [];
+  files = boot_files job;
+  unsent = script_lines 0 job.signals;
+  next_number = first_free_number;
+  frame_count = job.frames;
+  limit = job.limit;
+}
 
-abbrev guest_own : Guest → Own
+abbrev pub guest_own : Guest → Own
 guest_own g = record { memory = guest_memory g.image g.arguments; calls = no_rows }
 
 abbrev pub rows_of_guests : List Guest → ℕ
@@ -132,4 +137,5 @@ abbrev pub boot : Job → List Image → OneKernel
 boot job images = record {
   node = boot_node job images;
   own = by_guest guest_own (guests_of job images);
-  free = job.frames - rows_of_guests (guests_of job images) }
+  free = job.frames - rows_of_guests (guests_of job images);
+}

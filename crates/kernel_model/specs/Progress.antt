@@ -8,7 +8,8 @@ use Rattle.file_model.specs.declared.operations.FileOp.TheVariants.{Get, Put}
 use Rattle.file_model.specs.declared.operations.Readiness.{Readiness}
 use Rattle.file_model.specs.declared.operations.Readiness.TheVariants.{Ready, NotReady, FileStep}
 use Rattle.kernel_model.specs.Pages.{first_piece}
-use Rattle.kernel_model.specs.Plans.{Range, Phase, Gather, Act, Scatter, Stream, is_read, is_write, has_path, act_of, most_moved, pread64_call, pwrite64_call}
+use Rattle.kernel_model.specs.declared.ranges.Range.{Range}
+use Rattle.kernel_model.specs.Plans.{Phase, Gather, Act, Scatter, Stream, is_read, is_write, has_path, act_of, most_moved, pread64_call, pwrite64_call}
 use Rattle.mck_word.specs.Lists.{tail, before_zero, spliced}
 use Rattle.mck_word.specs.Words.{number_of, refused}
 use Rattle.mck_word.specs.declared.Access.{Access}
@@ -40,16 +41,16 @@ abbrev pub without_empty : List Range → List Range
 without_empty ranges = filter (λ r. nat_lt 0 r.len) ranges
 
 -- the ranges after n bytes of the first one
-abbrev advanced : ℕ → List Range → List Range
+abbrev pub advanced : ℕ → List Range → List Range
 advanced n [] = []
 advanced n (r ∷ rs) = without_empty (record { address = r.address + n; len = r.len - n } ∷ rs)
 
 -- the ranges cut to n bytes in all
-abbrev cut_ranges : ℕ → List Range → List Range
+abbrev pub cut_ranges : ℕ → List Range → List Range
 cut_ranges n [] = []
 cut_ranges n (r ∷ rs) = record { address = r.address; len = min n r.len } ∷ cut_ranges (n - r.len) rs
 
-abbrev ranges_of : Phase → List Range
+abbrev pub ranges_of : Phase → List Range
 ranges_of (Gather rs) = rs
 ranges_of Act = []
 ranges_of (Scatter rs) = rs
@@ -67,7 +68,7 @@ has_piece p = nat_lt 0 (length (ranges_left p))
 abbrev pub next_piece : Progress → Piece
 next_piece p = let r = get_or (ranges_left p) 0 (record { address = 0; len = 0 }) in first_piece r.address r.len
 
-abbrev access_of_phase : ℕ → Phase → Access
+abbrev pub access_of_phase : ℕ → Phase → Access
 access_of_phase number (Gather rs) = Read
 access_of_phase number Act = Read
 access_of_phase number (Scatter rs) = Write
@@ -77,17 +78,17 @@ access_of_phase number (Stream rs) = cond (is_read number) Write Read
 abbrev pub needed_access : Progress → Access
 needed_access p = access_of_phase p.number (get_or p.phases 0 Act)
 
-abbrev offset_argument : Progress → Option ℕ
+abbrev pub offset_argument : Progress → Option ℕ
 offset_argument p = cond (p.number == pread64_call || p.number == pwrite64_call) (Some (get_or p.arguments 3 0)) None
 
-abbrev description_found : Progress → ℕ
+abbrev pub description_found : Progress → ℕ
 description_found p = elim p.found [ None ↦ 0 | Some d ↦ d ]
 
 -- the operation of the stream's next piece
 abbrev pub stream_operation : Progress → FileOp
 stream_operation p = cond (is_read p.number)
-  (Get (description_found p) (offset_argument p) p.moved (next_piece p).len)
-  (Put (description_found p) (offset_argument p) p.moved (next_piece p).len)
+    (Get (description_found p) (offset_argument p) p.moved (next_piece p).len)
+    (Put (description_found p) (offset_argument p) p.moved (next_piece p).len)
 
 abbrev pub kind_of_phase : Files → Progress → Phase → Readiness
 kind_of_phase files p (Gather rs) = cond (has_piece p) Ready FileStep
@@ -175,36 +176,38 @@ stays page after = record { page = page; after = after }
 -- a path ends at its first zero byte, and is refused where the last piece has brought none
 abbrev pub gather_path : Progress → List Range → Files → After
 gather_path p ranges files =
-  let path = before_zero p.buffer in
-  cond (nat_lt (length path) (length p.buffer)) (settle (record p { buffer = path; phases = tail p.phases }) files)
-  (cond (length ranges == 0) (ends (refused ENAMETOOLONG) p files)
-  (goes_on (record p { phases = Gather ranges ∷ tail p.phases }) files))
+    let path = before_zero p.buffer in
+    cond (nat_lt (length path) (length p.buffer)) (settle (record p { buffer = path; phases = tail p.phases }) files)
+    (cond (length ranges == 0) (ends (refused ENAMETOOLONG) p files)
+    (goes_on (record p { phases = Gather ranges ∷ tail p.phases }) files))
 
 -- the vectors, each an address and a length of 8 bytes
-abbrev vectors : ℕ → List ℕ → List Range
+abbrev pub vectors : ℕ → List ℕ → List Range
 vectors zero bytes = []
 vectors (suc n) bytes = record { address = number_of (take 8 bytes); len = number_of (take 8 (drop 8 bytes)) } ∷ vectors n (drop 16 bytes)
 
 abbrev pub gather_vectors : Progress → List Range → Files → After
 gather_vectors p (r ∷ rs) files = goes_on (record p { phases = Gather (r ∷ rs) ∷ tail p.phases }) files
 gather_vectors p [] files =
-  let all = vectors 16 p.buffer in
-  cond (list_any (λ v. nat_le (2 ^ 63) v.len) all) (ends (refused EINVAL) p files)
-  (settle (record p { buffer = []; phases = Stream (without_empty (cut_ranges most_moved all)) ∷ [] }) files)
+    let all = vectors 16 p.buffer in
+    cond (list_any (λ v. nat_le (2 ^ 63) v.len) all) (ends (refused EINVAL) p files)
+    (settle (record p { buffer = []; phases = Stream (without_empty (cut_ranges most_moved all)) ∷ [] }) files)
 
 abbrev pub gathered : Progress → List Range → Files → List ℕ → Moved
 gathered p ranges files page =
-  let piece = next_piece p in
-  let q = record p { buffer = p.buffer ++ take piece.len (drop piece.off page) } in
-  stays page (cond (has_path p.number) (gather_path q (advanced piece.len ranges) files) (gather_vectors q (advanced piece.len ranges) files))
+    let piece = next_piece p in
+    let q = record p { buffer = p.buffer ++ take piece.len (drop piece.off page) } in
+    stays page (cond (has_path p.number) (gather_path q (advanced piece.len ranges) files) (gather_vectors q (advanced piece.len ranges) files))
 
 abbrev pub scattered : Progress → List Range → Files → List ℕ → Moved
 scattered p ranges files page =
-  let piece = next_piece p in
-  record { page = spliced page piece.off (take piece.len p.buffer);
-           after = settle (record p { buffer = drop piece.len p.buffer; phases = Scatter (advanced piece.len ranges) ∷ tail p.phases }) files }
+    let piece = next_piece p in
+    record {
+      page = spliced page piece.off (take piece.len p.buffer);
+      after = settle (record p { buffer = drop piece.len p.buffer; phases = Scatter (advanced piece.len ranges) ∷ tail p.phases }) files;
+    }
 
-abbrev nat_of : ℤ → ℕ
+abbrev pub nat_of : ℤ → ℕ
 nat_of (pos n) = n
 nat_of (negsuc n) = 0
 
@@ -214,15 +217,15 @@ streamed_on p ranges n = record p { moved = p.moved + n; phases = Stream (advanc
 
 abbrev pub streamed_in : Progress → List Range → Files → ℕ → List ℕ → FileResult → Moved
 streamed_in p ranges files process page r =
-  record { page = spliced page (next_piece p).off r.out; after = settle (streamed_on p ranges (length r.out)) r.files }
+    record { page = spliced page (next_piece p).off r.out; after = settle (streamed_on p ranges (length r.out)) r.files }
 
 abbrev pub streamed_out : Progress → List Range → List ℕ → FileResult → Moved
 streamed_out p ranges page r = stays page (settle (streamed_on p ranges (nat_of r.answer)) r.files)
 
 abbrev pub streamed : Progress → List Range → Files → ℕ → List ℕ → Moved
 streamed p ranges files process page =
-  let piece = next_piece p in
-  cond (is_read p.number)
+    let piece = next_piece p in
+    cond (is_read p.number)
     (streamed_in p ranges files process page (file_step files process (stream_operation p) []))
     (streamed_out p ranges page (file_step files process (stream_operation p) (take piece.len (drop piece.off page))))
 
@@ -248,7 +251,8 @@ acted p r = elim r.answer [
   | negsuc n ↦ record { progress = p; ended = Some (negsuc n); files = r.files }
   | pos n ↦ cond (is_read p.number || is_write p.number)
       (settle (record p { found = Some n; phases = tail p.phases }) r.files)
-      (settle (record p { answer = pos n; buffer = r.out; phases = with_scatter r.out (tail p.phases) }) r.files) ]
+      (settle (record p { answer = pos n; buffer = r.out; phases = with_scatter r.out (tail p.phases) }) r.files)
+]
 
 -- a stream that can move nothing more: it ends with the bytes moved, or with the error where none were
 abbrev pub stream_end : Progress → FileResult → After

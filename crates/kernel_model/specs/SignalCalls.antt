@@ -26,26 +26,29 @@ send signal generate node = cond (signal == 0) node (generate signal node)
 
 abbrev pub kills : ℕ → ℕ → ℕ → View → View
 kills t p signal v = cond (not (is_there v.node p)) (refuses t ESRCH v)
-  (answers t (pos 0) (on_node (send signal (generate_for_process p)) v))
+    (answers t (pos 0) (on_node (send signal (generate_for_process p)) v))
 
 abbrev pub kill : ℕ → ℤ → ℤ → View → View
 kill t pid signal v = elim (positive pid) [
   | None ↦ refuses t EINVAL v
-  | Some p ↦ elim (checked_signal signal) [ None ↦ refuses t EINVAL v | Some s ↦ kills t p s v ] ]
+  | Some p ↦ elim (checked_signal signal) [ None ↦ refuses t EINVAL v | Some s ↦ kills t p s v ]
+]
 
-abbrev has_thread_in : Node → ℕ → ℕ → Bool
+abbrev pub has_thread_in : Node → ℕ → ℕ → Bool
 has_thread_in node p tid = has_thread node tid && (thread_of node tid).process == p
 
 abbrev pub kills_thread : ℕ → ℕ → ℕ → ℕ → View → View
 kills_thread t p tid signal v = cond (not (is_there v.node p) || not (has_thread_in v.node p tid)) (refuses t ESRCH v)
-  (answers t (pos 0) (on_node (send signal (generate_for_thread tid)) v))
+    (answers t (pos 0) (on_node (send signal (generate_for_thread tid)) v))
 
 abbrev pub tgkill : ℕ → ℤ → ℤ → ℤ → View → View
 tgkill t pid tid signal v = elim (positive pid) [
   | None ↦ refuses t EINVAL v
   | Some p ↦ elim (positive tid) [
     | None ↦ refuses t EINVAL v
-    | Some x ↦ elim (checked_signal signal) [ None ↦ refuses t EINVAL v | Some s ↦ kills_thread t p x s v ] ] ]
+    | Some x ↦ elim (checked_signal signal) [ None ↦ refuses t EINVAL v | Some s ↦ kills_thread t p x s v ]
+  ]
+]
 
 -- ---- the signal calls
 
@@ -57,11 +60,11 @@ action_in bytes = record { handler = number_of (take 8 bytes); flags = number_of
 
 abbrev pub sets_action : ℕ → ℕ → ℕ → ℕ → View → View
 sets_action t signal act old v =
-  let p = (thread_of v.node t).process in
-  let before = action_of (process_of v.node p) signal in
-  let new = action_in (read_bytes v.memory act 24) in
-  let stored = cond (old == 0) v (store old (action_bytes before) v) in
-  answers t (pos 0) (cond (act == 0) stored (on_node (λ node. drop_ignored p signal (with_action p signal new node)) stored))
+    let p = (thread_of v.node t).process in
+    let before = action_of (process_of v.node p) signal in
+    let new = action_in (read_bytes v.memory act 24) in
+    let stored = cond (old == 0) v (store old (action_bytes before) v) in
+    answers t (pos 0) (cond (act == 0) stored (on_node (λ node. drop_ignored p signal (with_action p signal new node)) stored))
 
 -- a pointer that is 0 is not asked for
 abbrev pub can_read : View → ℕ → ℕ → Bool
@@ -80,37 +83,38 @@ nat_of (negsuc n) = 0
 
 abbrev pub sigaction : ℕ → ℤ → ℕ → ℕ → ℕ → View → View
 sigaction t signal act old size v =
-  cond (not (size == 8) || not (is_signal signal act)) (refuses t EINVAL v)
-  (cond (not (can_read v act 24) || not (can_write v old 24)) (refuses t EFAULT v)
-  (sets_action t (nat_of signal) act old v))
+    cond (not (size == 8) || not (is_signal signal act)) (refuses t EINVAL v)
+    (cond (not (can_read v act 24) || not (can_write v old 24)) (refuses t EFAULT v)
+    (sets_action t (nat_of signal) act old v))
 
 abbrev pub new_mask : ℤ → ℕ → ℕ → ℕ
 new_mask how set mask = as_mask (elim how [
   | negsuc n ↦ mask
-  | pos n ↦ cond (n == 0) (union mask set) (cond (n == 1) (minus mask set) set) ])
+  | pos n ↦ cond (n == 0) (union mask set) (cond (n == 1) (minus mask set) set)
+])
 
-abbrev is_how : ℤ → Bool
+abbrev pub is_how : ℤ → Bool
 is_how (pos n) = nat_le n 2
 is_how (negsuc n) = false
 
 abbrev pub sets_mask : ℕ → ℤ → ℕ → ℕ → View → View
 sets_mask t how address old v =
-  let x = thread_of v.node t in
-  let new = number_of (read_bytes v.memory address 8) in
-  let stored = cond (old == 0) v (store old (little_endian 8 x.mask) v) in
-  answers t (pos 0) (cond (address == 0) stored (on_node (change_thread t (λ (y : Thread). record y { mask = new_mask how new y.mask })) stored))
+    let x = thread_of v.node t in
+    let new = number_of (read_bytes v.memory address 8) in
+    let stored = cond (old == 0) v (store old (little_endian 8 x.mask) v) in
+    answers t (pos 0) (cond (address == 0) stored (on_node (change_thread t (λ (y : Thread). record y { mask = new_mask how new y.mask })) stored))
 
 abbrev pub sigprocmask : ℕ → ℤ → ℕ → ℕ → ℕ → View → View
 sigprocmask t how address old size v =
-  cond (not (size == 8) || (not (address == 0) && not (is_how how))) (refuses t EINVAL v)
-  (cond (not (can_read v address 8) || not (can_write v old 8)) (refuses t EFAULT v)
-  (sets_mask t how address old v))
+    cond (not (size == 8) || (not (address == 0) && not (is_how how))) (refuses t EINVAL v)
+    (cond (not (can_read v address 8) || not (can_write v old 8)) (refuses t EFAULT v)
+    (sets_mask t how address old v))
 
-abbrev pending_and_masked : Node → ℕ → ℕ
+abbrev pub pending_and_masked : Node → ℕ → ℕ
 pending_and_masked node t = let x = thread_of node t in common (union x.pending (process_of node x.process).pending) x.mask
 
 abbrev pub sigpending : ℕ → ℕ → ℕ → View → View
 sigpending t address size v =
-  cond (nat_lt 8 size) (refuses t EINVAL v)
-  (cond (not (may_access v.memory Write address size)) (refuses t EFAULT v)
-  (answers t (pos 0) (store address (little_endian size (pending_and_masked v.node t)) v)))
+    cond (nat_lt 8 size) (refuses t EINVAL v)
+    (cond (not (may_access v.memory Write address size)) (refuses t EFAULT v)
+    (answers t (pos 0) (store address (little_endian size (pending_and_masked v.node t)) v)))

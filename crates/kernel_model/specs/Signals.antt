@@ -47,10 +47,10 @@ stored_all (s ∷ ss) m = stored_all ss (write_bytes m s.address s.bytes)
 
 -- ---- generating
 
-abbrev ignored_by_default : List ℕ
+abbrev pub ignored_by_default : List ℕ
 ignored_by_default = 17 ∷ 18 ∷ 23 ∷ 28 ∷ []
 
-abbrev action_ignores : ℕ → Action → Bool
+abbrev pub action_ignores : ℕ → Action → Bool
 action_ignores signal a = a.handler == 1 || (a.handler == 0 && member signal ignored_by_default)
 
 abbrev pub ignores : Process → ℕ → Bool
@@ -59,11 +59,11 @@ ignores p signal = action_ignores signal (action_of p signal)
 -- a signal that the process ignores is dropped
 abbrev pub generate_for_process : ℕ → ℕ → Node → Node
 generate_for_process p signal node = cond (ignores (process_of node p) signal) node
-  (change_process p (λ (x : Process). record x { pending = with_signal signal x.pending }) node)
+    (change_process p (λ (x : Process). record x { pending = with_signal signal x.pending }) node)
 
 abbrev pub generate_for_thread : ℕ → ℕ → Node → Node
 generate_for_thread t signal node = cond (ignores (process_of node (thread_of node t).process) signal) node
-  (change_thread t (λ (x : Thread). record x { pending = with_signal signal x.pending }) node)
+    (change_thread t (λ (x : Thread). record x { pending = with_signal signal x.pending }) node)
 
 -- ---- choosing
 
@@ -80,8 +80,8 @@ is_deliverable node t = is_some (next_signal node t)
 -- the signal is taken from the thread's own set, and from the process's where it is not there
 abbrev pub taken : ℕ → ℕ → Node → Node
 taken t signal node =
-  let x = thread_of node t in
-  cond (has signal x.pending)
+    let x = thread_of node t in
+    cond (has signal x.pending)
     (change_thread t (λ (y : Thread). record y { pending = without_signal signal y.pending }) node)
     (change_process x.process (λ (p : Process). record p { pending = without_signal signal p.pending }) node)
 
@@ -89,7 +89,8 @@ taken t signal node =
 abbrev pub moved_to_own : ℕ → Node → Node
 moved_to_own t node = elim (next_signal node t) [
   | None ↦ node
-  | Some signal ↦ change_thread t (λ (y : Thread). record y { pending = with_signal signal y.pending }) (taken t signal node) ]
+  | Some signal ↦ change_thread t (λ (y : Thread). record y { pending = with_signal signal y.pending }) (taken t signal node)
+]
 
 -- ---- raising
 
@@ -104,8 +105,8 @@ signal_of_stop (Fault lack) = 11
 -- A signal of the thread's own making. Blocked or ignored, it ends the process at once; else it is pending. The thread is Ready in both cases.
 abbrev pub raised : ℕ → ℕ → Node → Node
 raised t signal node =
-  let x = thread_of node t in
-  cond (has signal x.mask || ignores (process_of node x.process) signal)
+    let x = thread_of node t in
+    cond (has signal x.mask || ignores (process_of node x.process) signal)
     (change_process x.process (dies (Killed signal)) (set_does t Ready node))
     (change_thread t (λ (y : Thread). record y { pending = with_signal signal y.pending; does = Ready }) node)
 
@@ -113,8 +114,10 @@ raised t signal node =
 
 abbrev pub SA_RESTART : Action → Bool
 SA_RESTART a = has_bit 28 a.flags
+
 abbrev pub SA_NODEFER : Action → Bool
 SA_NODEFER a = has_bit 30 a.flags
+
 abbrev pub SA_RESETHAND : Action → Bool
 SA_RESETHAND a = has_bit 31 a.flags
 
@@ -138,12 +141,12 @@ interrupted_regs back a r = cond (back && not (SA_RESTART a)) (set_a0 (word_of (
 
 abbrev pub handler_regs : Action → ℕ → ℕ → Regs → Regs
 handler_regs a signal sp r =
-  set_reg 1 trampoline (set_reg 2 sp (set_reg 10 signal (set_reg 11 0 (set_reg 12 0 (record r { pc = a.handler })))))
+    set_reg 1 trampoline (set_reg 2 sp (set_reg 10 signal (set_reg 11 0 (set_reg 12 0 (record r { pc = a.handler })))))
 
 abbrev pub handler_mask : Action → ℕ → ℕ → ℕ
 handler_mask a signal mask = as_mask (union mask (cond (SA_NODEFER a) a.mask.0 (with_signal signal a.mask.0)))
 
-abbrev set_action : ℕ → Action → Process → Process
+abbrev pub set_action : ℕ → Action → Process → Process
 set_action signal a p = record p { actions = slice_set p.actions (signal - 1) a }
 
 abbrev pub with_action : ℕ → ℕ → Action → Node → Node
@@ -152,9 +155,10 @@ with_action p signal a node = change_process p (set_action signal a) node
 -- a signal that is ignored from now on leaves all pending sets
 abbrev pub drop_ignored : ℕ → ℕ → Node → Node
 drop_ignored p signal node = cond (ignores (process_of node p) signal)
-  (record (change_process p (λ (x : Process). record x { pending = without_signal signal x.pending }) node) {
-    threads = each (λ (y : Thread). cond (y.process == p) (record y { pending = without_signal signal y.pending }) y) node.threads })
-  node
+    (record (change_process p (λ (x : Process). record x { pending = without_signal signal x.pending }) node) {
+      threads = each (λ (y : Thread). cond (y.process == p) (record y { pending = without_signal signal y.pending }) y) node.threads;
+    })
+    node
 
 abbrev pub after_reset : ℕ → ℕ → Action → Node → Node
 after_reset p signal a node = cond (SA_RESETHAND a) (drop_ignored p signal (with_action p signal (record a { handler = 0 }) node)) node
@@ -162,19 +166,19 @@ after_reset p signal a node = cond (SA_RESETHAND a) (drop_ignored p signal (with
 -- the handler is entered: the frame is stored, or the process is killed where it can't be
 abbrev pub enter_handler : ℕ → ℕ → Action → View → View
 enter_handler t signal a v =
-  let x = thread_of v.node t in
-  let r = interrupted_regs x.back a x.regs in
-  let sp = frame_address r in
-  cond (may_access v.memory Write sp frame_size)
+    let x = thread_of v.node t in
+    let r = interrupted_regs x.back a x.regs in
+    let sp = frame_address r in
+    cond (may_access v.memory Write sp frame_size)
     (store sp (frame_bytes r x.mask)
-      (on_node (λ node. after_reset x.process signal a (change_thread t (λ (y : Thread). record y { regs = handler_regs a signal sp r; mask = handler_mask a signal y.mask; back = false }) node)) v))
+    (on_node (λ node. after_reset x.process signal a (change_thread t (λ (y : Thread). record y { regs = handler_regs a signal sp r; mask = handler_mask a signal y.mask; back = false }) node)) v))
     (on_node (λ node. change_process x.process (dies (Killed 11)) (change_thread t (λ (y : Thread). record y { regs = r; back = false }) node)) v)
 
 abbrev pub deliver_signal : ℕ → ℕ → View → View
 deliver_signal t signal v =
-  let p = (thread_of v.node t).process in
-  let a = action_of (process_of v.node p) signal in
-  cond (a.handler == 0)
+    let p = (thread_of v.node t).process in
+    let a = action_of (process_of v.node p) signal in
+    cond (a.handler == 0)
     (on_node (λ node. change_process p (dies (Killed signal)) (change_thread t (λ (y : Thread). record y { regs = interrupted_regs y.back a y.regs; back = false }) node)) v)
     (enter_handler t signal a v)
 
@@ -182,11 +186,12 @@ deliver_signal t signal v =
 abbrev pub deliver : ℕ → View → View
 deliver t v = elim (next_signal v.node t) [
   | None ↦ v
-  | Some signal ↦ deliver_signal t signal (on_node (taken t signal) v) ]
+  | Some signal ↦ deliver_signal t signal (on_node (taken t signal) v)
+]
 
 -- ---- returning
 
-abbrev words_in : ℕ → List ℕ → List ℕ
+abbrev pub words_in : ℕ → List ℕ → List ℕ
 words_in zero bytes = []
 words_in (suc n) bytes = number_of (take 8 bytes) ∷ words_in n (drop 8 bytes)
 
@@ -199,8 +204,8 @@ mask_in bytes = as_mask (number_of (take 8 (drop 256 bytes)))
 -- the registers and the mask come back from the frame at the stack pointer; where it can't be read, 11 is raised
 abbrev pub return_from_handler : ℕ → View → View
 return_from_handler t v =
-  let sp = reg (thread_of v.node t).regs 2 in
-  let bytes = read_bytes v.memory sp frame_size in
-  cond (may_access v.memory Read sp frame_size)
+    let sp = reg (thread_of v.node t).regs 2 in
+    let bytes = read_bytes v.memory sp frame_size in
+    cond (may_access v.memory Read sp frame_size)
     (on_node (change_thread t (λ (y : Thread). record y { regs = restored bytes; mask = mask_in bytes; does = Ready })) v)
     (on_node (raised t 11) v)

@@ -135,8 +135,8 @@ set_status t marked status h = record h { own = record h.own { calls = put h.own
 abbrev pub one_trapped : ℕ → ℕ → Trapped → OneHere → OneHere
 one_trapped p t (Done v) h = with_view v h
 one_trapped p t (Forks v child stores) h =
-  let m = stored_all v.stores h.own.memory in
-  record (with_view v h) { free = h.free - count h.own.memory; born = Some (child, record { memory = stored_all stores m; calls = no_rows }) }
+    let m = stored_all v.stores h.own.memory in
+    record (with_view v h) { free = h.free - count h.own.memory; born = Some (child, record { memory = stored_all stores m; calls = no_rows }) }
 one_trapped p t (Begins node progress) h = set_status t false (Active progress) (with_node (set_does t Called node) h)
 one_trapped p t (Changes node change) h = one_effect p t (answer_of_change change) (effect_of (process_of node p) change) (with_node node h)
 
@@ -166,9 +166,9 @@ with_page i bytes m = change m i (λ (x : Page). record x { bytes = bytes })
 
 unfoldable pub one_piece : ℕ → ℕ → OneHere → OneHere
 one_piece p t h =
-  let i = (next_piece (progress_at h t)).page in
-  let m = move_piece (progress_at h t) h.node.files p (bytes_at h.own.memory i) in
-  after_call_step t m.after (with_memory (with_page i m.page h.own.memory) h)
+    let i = (next_piece (progress_at h t)).page in
+    let m = move_piece (progress_at h t) h.node.files p (bytes_at h.own.memory i) in
+    after_call_step t m.after (with_memory (with_page i m.page h.own.memory) h)
 
 -- the call ends with that answer and gives its description back
 unfoldable pub call_ended : ℕ → ℤ → OneHere → OneHere
@@ -201,11 +201,11 @@ after_here (End q) p h = record (with_node (process_ended p h.node) h) { own = n
 
 -- ---- in the whole state
 
-abbrev of_line : Option ScriptLine → ℕ
+abbrev pub of_line : Option ScriptLine → ℕ
 of_line None = 0
 of_line (Some l) = l.process
 
-abbrev of_thread : Node → ℕ → ℕ
+abbrev pub of_thread : Node → ℕ → ℕ
 of_thread node t = (thread_of node t).process
 
 abbrev pub process_of_step : Node → Step → ℕ

@@ -29,8 +29,8 @@ use Rattle.std.specs.Prelude.{take, drop, Bool, List, None, Option, Some, cond, 
 -- the thread is Ready, its process lives, and no signal is deliverable to it
 abbrev pub may_run : Node → ℕ → Bool
 may_run node t =
-  let x = thread_of node t in
-  has_thread node t && ready_to_run x.does && is_living node x.process && not (is_deliverable node t)
+    let x = thread_of node t in
+    has_thread node t && ready_to_run x.does && is_living node x.process && not (is_deliverable node t)
 
 abbrev pub does_after : Stop → Does
 does_after On = Ready
@@ -38,7 +38,7 @@ does_after stop = Stopped stop
 
 abbrev pub counted : ℕ → Outcome → Node → Node
 counted t e node =
-  change_process (thread_of node t).process (λ (p : Process). record p { instructions = p.instructions + 1 })
+    change_process (thread_of node t).process (λ (p : Process). record p { instructions = p.instructions + 1 })
     (change_thread t (λ (x : Thread). record x { regs = e.regs; does = does_after e.stop; back = false }) node)
 
 -- a node and the memory of one process
@@ -49,8 +49,8 @@ pub record Ran : Type 0 where
 -- one instruction of the thread; the one that stops is counted
 abbrev pub executed : ℕ → Ran → Ran
 executed t v =
-  let e = instr (thread_of v.node t).regs v.memory in
-  record { node = counted t e v.node; memory = e.memory }
+    let e = instr (thread_of v.node t).regs v.memory in
+    record { node = counted t e v.node; memory = e.memory }
 
 -- ---- traps
 
@@ -96,8 +96,8 @@ trap t free v = trap_of_stop t free v (stop_in (thread_of v.node t).does)
 
 abbrev pub may_deliver : Node → ℕ → Bool
 may_deliver node t =
-  let x = thread_of node t in
-  has_thread node t && ready_to_run x.does && is_living node x.process && is_deliverable node t
+    let x = thread_of node t in
+    has_thread node t && ready_to_run x.does && is_living node x.process && is_deliverable node t
 
 -- ---- answers that come later
 
@@ -107,9 +107,9 @@ is_error errno (negsuc n) = n + 1 == errno
 
 abbrev pub returns_living : ℕ → ℤ → Node → Node
 returns_living t answer node =
-  cond (is_error EINTR answer) (sent_back t node)
-  (cond (is_error EPIPE answer) (generate_for_thread t 13 (answered t answer node))
-  (answered t answer node))
+    cond (is_error EINTR answer) (sent_back t node)
+    (cond (is_error EPIPE answer) (generate_for_thread t 13 (answered t answer node))
+    (answered t answer node))
 
 -- the thread of a call gets its answer; in a process that does not live it is Gone
 unfoldable pub returns : ℕ → ℤ → Node → Node
@@ -131,8 +131,8 @@ may_end_wait_of node p (Some w) = may_end_wait node p w.0
 
 abbrev pub may_wait : Node → ℕ → Bool
 may_wait node t =
-  let x = thread_of node t in
-  has_thread node t && is_living node x.process && may_end_wait_of node x.process (wait_of x.does)
+    let x = thread_of node t in
+    has_thread node t && is_living node x.process && may_end_wait_of node x.process (wait_of x.does)
 
 abbrev pub waited_for : ℕ → View → Option (ℤ × ℕ) → View
 waited_for t v None = v
@@ -146,8 +146,8 @@ waited t v = waited_for t v (wait_of (thread_of v.node t).does)
 -- a signal is deliverable to a thread that rests
 abbrev pub may_be_called_back : Node → ℕ → Bool
 may_be_called_back node t =
-  let x = thread_of node t in
-  has_thread node t && rests x.does && is_living node x.process && is_deliverable node t
+    let x = thread_of node t in
+    has_thread node t && rests x.does && is_living node x.process && is_deliverable node t
 
 -- a resting thread is back on its ecall
 unfoldable pub called_back : ℕ → Node → Node
@@ -189,4 +189,5 @@ unfoldable pub process_ended : ℕ → Node → Node
 process_ended p node = tells_parent (process_of node p).parent (change_process p (λ (x : Process). record x { life = life_ended x.life }) (record node {
   threads = collect (λ t (x : Thread). cond (x.process == p) None (Some x)) node.threads;
   sleepers = filter (λ (x : Sleeper). not (x.process == p)) node.sleepers;
-  files = close_all p node.files }))
+  files = close_all p node.files;
+}))

@@ -1,12 +1,13 @@
 //! The kernel of one node without proxies: its state, its calls, its signals and its steps.
 #![tactic(auto)]
 
+pub mod ranges;
 pub mod steps;
 
 use isa_model::Stop;
 use mck_flags::{Rights, SigSet};
 use mck_word::{End, PageRange};
-
+pub use ranges::Range;
 pub use steps::Step;
 
 /// How far a process's life is.

@@ -34,3 +34,7 @@ line_then a b c p ps e f = f ∙ (ap (λ t. t ++ text_of ps) e ∙ append_assoc 
 pub parts_then : (a b c : List ℕ) (ps qs : List Part) → b ≡ a ++ text_of ps → c ≡ b ++ text_of qs → c ≡ a ++ text_of (ps ++ qs)
 parts_then a b c ps qs e f =
     f ∙ (ap (λ t. t ++ text_of qs) e ∙ (append_assoc a (text_of ps) (text_of qs) ∙ ap (λ t. a ++ t) (sym (text_of-append ps qs))))
+
+-- parts in front of others
+pub parts_front : (ps qs : List Part) (a b : List ℕ) → b ≡ a ++ text_of ps → b ++ text_of qs ≡ a ++ text_of (ps ++ qs)
+parts_front ps qs a b e = ap (λ t. t ++ text_of qs) e ∙ (append_assoc a (text_of ps) (text_of qs) ∙ ap (λ t. a ++ t) (sym (text_of-append ps qs)))

@@ -1,2 +1,5 @@
-pub mod Writing
+pub mod Checks
 pub mod Grow
+pub mod Reading
+pub mod Status
+pub mod Writing

@@ -5,9 +5,19 @@
 //! bytes once. The definitions stand in run_model (reports, traces), run_summary, and specs/ here.
 #![tactic(auto)]
 
+mod check_text;
+mod reading;
 mod report_text;
+mod status;
+mod status_text;
+#[cfg(test)]
+mod tests;
 mod trace_text;
 mod writing;
 
+pub use check_text::{check, needed_frames};
+pub use reading::{TraceError, read_trace};
 pub use report_text::{grow, report};
+pub use status::{Status, status_number};
+pub use status_text::status_line;
 pub use trace_text::trace;

@@ -18,21 +18,21 @@ module _ {V W : Type 0} (f : V → W) where
 
   pub each-put : (m : Map V) (k : ℕ) (v : V) → each f (put m k v) ≡ put (each f m) k (f v)
   each-put m k v = same_rows _ _ (λ q. at-each (put m k v) q ∙ ap (option_map f) (at-put m k v q) ∙ by-key (q == k) (Some v) (at m q)
-    ∙ ap (cond (q == k) (Some (f v))) (sym (at-each m q)) ∙ sym (at-put (each f m) k (f v) q))
+      ∙ ap (cond (q == k) (Some (f v))) (sym (at-each m q)) ∙ sym (at-put (each f m) k (f v) q))
 
   pub each-cut : (m : Map V) (k : ℕ) → each f (cut m k) ≡ cut (each f m) k
   each-cut m k = same_rows _ _ (λ q. at-each (cut m k) q ∙ ap (option_map f) (at-cut m k q) ∙ by-key (q == k) None (at m q)
-    ∙ ap (cond (q == k) None) (sym (at-each m q)) ∙ sym (at-cut (each f m) k q))
+      ∙ ap (cond (q == k) None) (sym (at-each m q)) ∙ sym (at-cut (each f m) k q))
 
   pub each-keep : (m : Map V) (test : ℕ → Bool) → each f (keep m test) ≡ keep (each f m) test
   each-keep m test = same_rows _ _ (λ q. at-each (keep m test) q ∙ ap (option_map f) (at-keep m test q) ∙ by-key (test q) (at m q) None
-    ∙ ap (λ o. cond (test q) o None) (sym (at-each m q)) ∙ sym (at-keep (each f m) test q))
+      ∙ ap (λ o. cond (test q) o None) (sym (at-each m q)) ∙ sym (at-keep (each f m) test q))
 
   pub each-none : each f no_rows ≡ no_rows
   each-none = same_rows _ _ (λ q. at-each no_rows q ∙ ap (option_map f) (at-none q) ∙ sym (at-none q))
 
   change-there : (m : Map V) (k : ℕ) (g : V → V) (h : W → W) → ((v : V) → f (g v) ≡ h (f v)) → (o : Option V)
-    → each f (change_row m k g o) ≡ change_row (each f m) k h (option_map f o)
+      → each f (change_row m k g o) ≡ change_row (each f m) k h (option_map f o)
   change-there m k g h e None = refl
   change-there m k g h e (Some v) = each-put m k (g v) ∙ ap (put (each f m) k) (e v)
 

@@ -30,7 +30,7 @@ module _ {V : Type 0} where
   same_rows m n h = finmap.same_map nat_cmp_total nat_cmp-IsAntisymmetric m n h
 
 module _ {V W : Type 0} where
-  at-collect_entries : (f : ℕ → V → Option W) (es : List (ℕ × V)) (q : ℕ) → at (collect_entries f es) q ≡ and_then (find nat_cmp q es) (f q)
+  pub at-collect_entries : (f : ℕ → V → Option W) (es : List (ℕ × V)) (q : ℕ) → at (collect_entries f es) q ≡ and_then (find nat_cmp q es) (f q)
   unfolding collect_entries
   at-collect_entries f [] q = finmap.get-empty nat_cmp q
   at-collect_entries f (e ∷ es) q =

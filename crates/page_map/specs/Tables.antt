@@ -1,5 +1,5 @@
 -- Rows of page tables, and room for pages.
-use Rattle.std.specs.Prelude.{ℕ, ◌-◌, ◌≤◌, ◌^◌, ◌&&◌, IsTrue, List, [], ◌∷◌, is_none, is_some}
+use Rattle.std.specs.Prelude.{ℕ, ◌-◌, ◌≤◌, ◌<◌, ◌^◌, ◌&&◌, IsTrue, List, [], ◌∷◌, is_none, is_some}
 use Rattle.key_rows.specs.Table.{Table}
 use Rattle.page_map.specs.Counts.{count_to}
 use Rattle.mck_word.specs.declared.Frame.{Frame}
@@ -26,6 +26,10 @@ RoomAt has_room page = (rs : List PageRange) × has_room rs × IsTrue (in_ranges
 -- the page has a row
 abbrev pub IsThere : PageRows → ℕ → Type 0
 IsThere m page = IsTrue (is_some (at m page))
+
+-- no page from 2^27 on has a row
+abbrev pub IsBelow : PageRows → Type 0
+IsBelow m = (page : ℕ) → IsThere m page → page < 2 ^ 27
 
 abbrev pub size_of_range : PageRange → ℕ
 size_of_range r = r.hi - r.lo

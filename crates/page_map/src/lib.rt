@@ -5,7 +5,7 @@
 //! stand in specs/Tables, those of maps in mck_word's specs/Maps.
 #![tactic(auto)]
 
-ghost use Rattle.std.specs.Prelude.{◌≡◌, ◌≤◌, ◌<◌, ◌+◌, ◌^◌, ◌-◌, List, IfOk, OnOk, Some, None, IsTrue, option_map, sum_by, min, true};
+ghost use Rattle.std.specs.Prelude.{◌≡◌, ◌≤◌, ◌<◌, ◌+◌, ◌^◌, ◌-◌, List, IfOk, IsSome, OnOk, Some, None, IsTrue, option_map, sum_by, min, true};
 ghost use Rattle.key_rows.specs.Table.{Table, key_from};
 ghost use Rattle.mck_word.specs.Maps.{Map, at, change, cut, no_rows, put};
 ghost use Rattle.mck_word.specs.Pages.{in_ranges};
@@ -33,7 +33,8 @@ pub trait PageTable: Sized {
 
     /// The frame and the rights of a page, None exactly where it is absent.
     fn get(&self, page: u64) -> Option<(Frame, Rights)>
-        ensures { result ≡ at (rows self.now) page };
+        ensures row { result ≡ at (rows self.now) page }
+        ensures below { IsSome result → page < 2 ^ 27 };
 
     /// Makes room for the pages of the ranges, which rise, are disjoint and end at 2^27 at most.
     fn reserve(&mut self, pages: &[PageRange]) -> Result<(), NoMemory>
@@ -86,7 +87,11 @@ impl Model for PageMap {
 
     ghost coded = { table_code (coded× frame.the_row.coded rights.the_row.coded) };
 
+    ghost use Rattle.page_map.specs.Tables.{IsBelow};
+
     ghost view = { λ a. a.list };
+
+    ghost invariant = { λ a. IsBelow a.list.map };
 }
 
 /// How many pages the ranges have together, as far as that is told.

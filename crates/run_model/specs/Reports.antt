@@ -63,7 +63,7 @@ pub record PathEntry : Type 0 where
 abbrev pub path_entry : Files → ℕ × Inode → Option PathEntry
 path_entry files e = elim e.1.name [ None ↦ None | Some name ↦ Some (record { text = path_of files e.0; node = e.1 }) ]
 
-abbrev entry_before : PathEntry → PathEntry → Bool
+abbrev pub entry_before : PathEntry → PathEntry → Bool
 entry_before a b = bytes_before a.text b.text
 
 abbrev pub path_lines : PathEntry → List Part

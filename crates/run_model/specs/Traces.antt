@@ -5,10 +5,10 @@ use Rattle.run_model.specs.Texts.{Word, Text, Number, Part, Line, text_of}
 use Rattle.std.specs.List.{list_all}
 use Rattle.std.specs.Prelude.{◌≡◌, ℕ, zero, suc, List, [], ◌∷◌, map, codes, Bool, false, true, ◌==◌, ◌⊎◌}
 
-abbrev one_number : List ℕ → ℕ → List Word
+abbrev pub one_number : List ℕ → ℕ → List Word
 one_number word n = Text word ∷ Number n ∷ []
 
-abbrev two_numbers : List ℕ → ℕ → ℕ → List Word
+abbrev pub two_numbers : List ℕ → ℕ → ℕ → List Word
 two_numbers word n m = Text word ∷ Number n ∷ Number m ∷ []
 
 abbrev pub words_of : Event → List Word

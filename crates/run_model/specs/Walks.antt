@@ -20,27 +20,27 @@ abbrev pub most_per_run : ℕ
 most_per_run = 64
 
 -- the first of the events that may happen
-abbrev first_that_may : Pair → List Event → Option Event
+abbrev pub first_that_may : Pair → List Event → Option Event
 first_that_may pair events = find (may pair) events
 
 -- ---- cores
 
-abbrev run_of : Pair → ℕ → ℕ → Event
+abbrev pub run_of : Pair → ℕ → ℕ → Event
 run_of pair core t = Run core (tid t) (min most_per_run (pair.node.limit - instructions_in_all pair.node))
 
-abbrev core_event : Pair → ℕ → ℕ → Option Event
+abbrev pub core_event : Pair → ℕ → ℕ → Option Event
 core_event pair core t = cond (t % pair.cores == core) (first_that_may pair (Trap (tid t) ∷ Deliver (tid t) ∷ run_of pair core t ∷ [])) None
 
-abbrev is_above_last : Option ℕ → ℕ → Bool
+abbrev pub is_above_last : Option ℕ → ℕ → Bool
 is_above_last None t = true
 is_above_last (Some last) t = nat_lt last t
 
-abbrev first_event : Pair → ℕ → List ℕ → Option Event
+abbrev pub first_event : Pair → ℕ → List ℕ → Option Event
 first_event pair core [] = None
 first_event pair core (t ∷ ts) = let rest = first_event pair core ts in elim (core_event pair core t) [ None ↦ rest | Some e ↦ Some e ]
 
 -- the next thread above the core's last one that has an event, else the lowest
-abbrev core_offer : Pair → ℕ → Option Event
+abbrev pub core_offer : Pair → ℕ → Option Event
 core_offer pair core =
     let last = at pair.last core in
     elim (first_event pair core (filter (is_above_last last) (keys pair.node.threads))) [ None ↦ first_event pair core (keys pair.node.threads) | Some e ↦ Some e ]
@@ -53,19 +53,19 @@ all_workers pair = count_from 0 pair.workers
 abbrev pub thread_numbers : Pair → ℕ → List ℕ
 thread_numbers pair p = filter (λ t. (thread_of pair.node t).process == p) (keys pair.node.threads)
 
-abbrev kernel_offer : Pair → ℕ → Option Event
+abbrev pub kernel_offer : Pair → ℕ → Option Event
 kernel_offer pair p = first_that_may pair
     (Intake (pid p) ∷ map (λ w. Answer (pid p) w) (all_workers pair) ++ map (λ t. BeginVm (tid t)) (thread_numbers pair p)
     ++ map (λ t. Interrupt (tid t)) (thread_numbers pair p) ++ map (λ t. Wait (tid t)) (thread_numbers pair p) ++ (Reap (pid p) ∷ []))
 
-abbrev linux_offer : Pair → ℕ → Option Event
+abbrev pub linux_offer : Pair → ℕ → Option Event
 linux_offer pair p = first_that_may pair
     (map (λ r. Fetch (pid p) r) (count_from 0 pair.rings) ++ AckClear (pid p) ∷ map (λ w. Assign (pid p) w) (all_workers pair) ++ map (λ q. Unpark (pid p) (req q)) (keys (side_of pair p).book.rows))
 
-abbrev worker_offer : Pair → ℕ → ℕ → Option Event
+abbrev pub worker_offer : Pair → ℕ → ℕ → Option Event
 worker_offer pair p w = first_that_may pair (let x = pid p in Miss x w ∷ Pin x w ∷ Copy x w ∷ Unpin x w ∷ Act x w ∷ Park x w ∷ Finish x w ∷ [])
 
-abbrev script_offer : Pair → Option Event
+abbrev pub script_offer : Pair → Option Event
 script_offer pair = first_that_may pair (map (λ (l : ScriptLine). Script l.index) pair.node.unsent)
 
 abbrev pub offer : Pair → Actor → Option Event

@@ -27,7 +27,7 @@ guest e = ap (λ (words : List Word). Line (Text (codes "guest") ∷ Number e.0 
 file_or_directory : (directory : Bool) (name : List ℕ) (bytes : List ℕ) →
     cond directory (Line (Text (codes "dir") ∷ Text name ∷ []) ∷ []) (Line (Text (codes "file") ∷ Text name ∷ Number (length bytes) ∷ []) ∷ Block bytes ∷ [])
     ≡ cond directory (Line (Text (codes "dir") ∷ Text name ∷ []) ∷ [])
-      (Line (Text (codes "file") ∷ Text name ∷ Number (length (cond directory [] bytes)) ∷ []) ∷ Block (cond directory [] bytes) ∷ [])
+    (Line (Text (codes "file") ∷ Text name ∷ Number (length (cond directory [] bytes)) ∷ []) ∷ Block (cond directory [] bytes) ∷ [])
 file_or_directory true name bytes = refl
 file_or_directory false name bytes = refl
 

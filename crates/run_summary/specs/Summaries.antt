@@ -43,7 +43,8 @@ summary_of shown = record {
   paths = map path_row (paths_in_order shown.node.files);
   unsent = map line_number shown.node.unsent;
   instructions = instructions_in_all shown.node;
-  free = shown.free }
+  free = shown.free;
+}
 
 -- ---- the report of a summary
 

@@ -6,7 +6,6 @@ use Rattle.kernel_model.specs.Pages.{page_end}
 use Rattle.kernel_model.specs.declared.Change.{Change}
 use Rattle.mck_word.specs.Maps.{some_row}
 use Rattle.mck_word.specs.Pages.{in_range}
-use Rattle.mck_word.specs.declared.PageRange.{PageRange}
 use Rattle.std.specs.Prelude.{List, None, Option, Some, length, option_map, true, ℕ, ℤ, ◌&&◌, ◌+◌, ◌==◌, ◌≡◌}
 use Rattle.vm_calls.specs.Plans.{argument, call_range, change_range, closes, looks_for_gap, low_word}
 use Rattle.vm_calls.specs.declared.Facts.{Facts}

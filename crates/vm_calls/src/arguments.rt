@@ -9,13 +9,18 @@ use mck_word::PageRange;
 
 /// The lowest address that may be mapped, and the first above all that may be.
 const LOWEST: u64 = 0x10000;
+
 const HIGHEST: u64 = 0x3f_ffff_f000;
 
 /// The first page at or above an address.
 pub fn page_end(a: u64) -> u64
     ensures { result ≡ page_end a }
 {
-    if a % 4096 == 0 { a / 4096 } else { a / 4096 + 1 }
+    if a % 4096 == 0 {
+        a / 4096
+    } else {
+        a / 4096 + 1
+    }
 }
 
 /// Whether the pages of the range lie inside the bounds.
@@ -59,7 +64,7 @@ pub fn rights_of(prot: u64) -> Rights
     ensures { result ≡ rights_of_prot prot }
 {
     let write = prot / 2 % 2 == 1;
-    let read = prot % 2 == 1 || write;
     let exec = prot / 4 % 2 == 1;
+    let read = prot % 2 == 1 || write;
     Rights((if read { 1 } else { 0 }) + (if write { 2 } else { 0 }) + (if exec { 4 } else { 0 }))
 }

@@ -1,16 +1,18 @@
 // The memory calls over the facts.
 ghost use Rattle.kernel_model.specs.MemoryCalls.{Decision};
-ghost use Rattle.std.specs.Prelude.{◌≡◌, ◌<◌, ◌≤◌, ◌^◌, length, option_map};
+ghost use Rattle.std.specs.Prelude.{◌≡◌, ◌<◌, ◌≤◌, ◌^◌};
+ghost use Rattle.std.specs.Option.{ForSome};
 ghost use Rattle.vm_calls.specs.Facts.{Closes, decision, refusal};
 ghost use Rattle.vm_calls.specs.Plans.{brk_by, decided, finished, mmap_anywhere, mmap_by, mmap_fixed, mprotect_by, munmap_by, protect_by};
 
 use crate::arguments::{is_inside, page_end, range_for, rights_of};
-use crate::{Facts, AtEnd, VmPlan};
+use crate::{AtEnd, Facts, VmPlan};
 use kernel_model::Change;
 use mck_flags::Rights;
 use mck_word::PageRange;
 
 const EINVAL: i64 = -22;
+
 const ENOMEM: i64 = -12;
 
 /// How far a break may be above the heap's base, in bytes.
@@ -31,6 +33,8 @@ fn mmap_fixed(f: &Facts, range: PageRange, rights: Rights) -> VmPlan
 }
 
 fn mmap_anywhere(f: &Facts, pages: u64, rights: Rights) -> VmPlan
+    requires gap { ForSome f.now.gap (λ low. low < 2 ^ 52) }
+    requires few { pages ≤ 2 ^ 52 }
     ensures closing { Closes f.now result }
     ensures decides { decision result ≡ mmap_anywhere f.now pages rights }
 {
@@ -47,6 +51,7 @@ fn mmap_anywhere(f: &Facts, pages: u64, rights: Rights) -> VmPlan
 }
 
 fn mmap(f: &Facts, address: u64, len: u64, prot: u64, flags: u64) -> VmPlan
+    requires gap { ForSome f.now.gap (λ low. low < 2 ^ 52) }
     ensures closing { Closes f.now result }
     ensures decides { decision result ≡ mmap_by f.now address len prot flags }
 {
@@ -137,11 +142,18 @@ fn brk(f: &Facts, a: u64) -> VmPlan
 pub fn plan(f: &Facts, number: u64, args: &[u64; 6]) -> VmPlan
     requires small { f.now.brk < 2 ^ 63 }
     requires heap { f.now.base < 2 ^ 63 }
+    requires gap { ForSome f.now.gap (λ low. low < 2 ^ 52) }
     ensures closing { Closes f.now result }
     ensures decides { decision result ≡ decided f.now number args.now }
 {
     match number {
-        222 => mmap(f, args[0], args[1], args[2] % (1 << 32), args[3] % (1 << 32)),
+        222 => mmap(
+            f,
+            args[0],
+            args[1],
+            args[2] % (1 << 32),
+            args[3] % (1 << 32),
+        ),
         215 => munmap(f, args[0], args[1]),
         226 => mprotect(f, args[0], args[1], args[2] % (1 << 32)),
         _ => brk(f, args[0]),

@@ -1,6 +1,7 @@
 use Rattle.std.proofs.Common.{◌≡◌, ◌∙◌, AllPairs, Any, map, length, sym, ap, subst, arith, true, rules}
 use Rattle.std.proofs.lemmas.List.{length-map}
-use Rattle.elf_load.specs.Kept.{AreApart, SharesNoPage, RunsAt}
+use Rattle.elf_load.specs.Kept.{AreApart}
+use Rattle.job_model.specs.Images.{SharesNoPage, RunsAt}
 use Rattle.elf_load.specs.Profile.{segment_from, has_entry, image_of}
 use Rattle.elf_load.proofs.Images.{apart_images, bytes_fit, entry_kept}
 use Rattle.elf_load.proofs.loading.load.Goals as goal

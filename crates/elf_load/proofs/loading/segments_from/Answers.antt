@@ -1,6 +1,6 @@
 use Rattle.std.proofs.Common.{◌≡◌, All, map, sym, subst, arith}
 use Rattle.std.proofs.lemmas.Grind.{common_steps}
-use Rattle.elf_load.specs.Kept.{IsSegment}
+use Rattle.job_model.specs.Images.{IsSegment}
 use Rattle.elf_load.specs.Profile.{segment_from}
 use Rattle.elf_load.proofs.Images.{segments_kept}
 use Rattle.elf_load.proofs.loading.segments_from.Goals as goal

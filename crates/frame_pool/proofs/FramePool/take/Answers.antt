@@ -4,7 +4,7 @@ use Rattle.std.proofs.lemmas.List.{with_items_is}
 use Rattle.mck_word.specs.Lists.{tail}
 use Rattle.frame_pool.specs.Pools.{Pool}
 use Rattle.frame_pool.specs.Trees.{IsPool, free_in, marked}
-use Rattle.frame_pool.proofs.Changes.{changed_at, first-free, none-free, taken}
+use Rattle.frame_pool.proofs.Changes.{changed_at, first-free, is-frame, none-free, taken}
 use Rattle.frame_pool.proofs.FramePool.take.Goals as goal
 
 pub returns-then-not-index-clause-lowest : goal.returns-then-not-index-clause-lowest
@@ -65,3 +65,11 @@ returns-clause-rest c =
     let long : length c.mark.new.nodes ≡ i.nodes.len = c.mark.ensures.size ∙ (ap length was ∙ sym i.nodes.ok.0) in
     let rest = ap (λ xs. free_in xs i.leaves) (with_items_is i.nodes c.mark.new.nodes long) ∙ sym (ap (λ (p : Pool). tail p.free) (sym c.self.view_is) ∙ ap tail first) in
     λ j. record { frames = (c.self.view_is j).frames; free = rest j }
+
+pub returns-clause-below : goal.returns-clause-below
+returns-clause-below c =
+    let i = c.self.inside in
+    let e : i.leaves + (c.lowest-leaf.result - i.leaves) ≡ c.lowest-leaf.result = omega arith in
+    let on = ap (marked i.nodes.items) e ∙ (ap (λ xs. marked xs c.lowest-leaf.result) (sym c.deref.ensures.value) ∙ c.lowest-leaf.ensures.set) in
+    let frame = is-frame i.nodes.items i.leaves i.height i.frames i.free c.self.invariant i.nodes.items (c.lowest-leaf.result - i.leaves) on in
+    omega (arith, ap (λ (p : Pool). p.frames) c.self.view_is)

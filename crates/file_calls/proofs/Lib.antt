@@ -1,0 +1,3 @@
+pub mod EntryRecords
+pub mod PathNames
+pub mod WalkSteps

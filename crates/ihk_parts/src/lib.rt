@@ -1,0 +1,16 @@
+//! Who acts next in a walk of the two kernels.
+//!
+//! Promises: `Walker` chooses as the definition of walks does (run_model, Walks): with order 0 the next actor in turn that has an
+//! offer, with another order the one that the generator's next word names among those that have one. A step looks at each actor
+//! at most twice and takes no memory. The definitions stand in specs/Turns.
+#![tactic(auto)]
+
+mod offers;
+mod passing;
+mod turn;
+mod walker;
+
+pub use offers::Offers;
+pub use run_model::Actor;
+pub use turn::Turn;
+pub use walker::{Walker, turns_are_choices, turns_move_on};

@@ -1,0 +1,13 @@
+pub mod Bytewise
+pub mod PagesOfAccess
+pub mod Written
+pub mod Locality
+pub mod TwoPlaces
+pub mod Changes
+pub mod InPage
+pub mod StoreRights
+pub mod AtomicSteps
+pub mod StopLaws
+pub mod SameOutcome
+pub mod SameRuns
+pub mod RunSteps

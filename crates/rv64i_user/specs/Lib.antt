@@ -1,0 +1,4 @@
+pub mod Stopping
+pub mod Places
+pub mod Runs
+pub mod Seen

@@ -1,0 +1,3 @@
+pub mod HighGaps
+pub mod Members
+pub mod Rising
