@@ -1,6 +1,11 @@
+pub mod Again
 pub mod Codes
 pub mod Counting
 pub mod Cuts
+pub mod Decimals
 pub mod LabelMaps
+pub mod ListedTexts
+pub mod NameFacts
+pub mod Pieces
 pub mod Texts
 pub mod WordLists

@@ -9,7 +9,7 @@ prepended : (front first : List ℕ) (r : Result (List ℕ) ℕ) → after_these
 prepended front first (Ok xs) = ap (λ ys. Ok ys) (append_assoc front first xs)
 prepended front first (Err e) = refl
 
-one_line : (marks : Marks) (line here : ℕ) (text : List ℕ) (more : List (List ℕ)) (found : Option (Option ℕ)) → said marks line here text ≡ found → words_from marks line here (text ∷ more) ≡ (or_broken line found >>= λ word. words_from marks (line + 1) (here + words_in text) more >>= λ others. Ok (option_to_list word ++ others))
+pub one_line : (marks : Marks) (line here : ℕ) (text : List ℕ) (more : List (List ℕ)) (found : Option (Option ℕ)) → said marks line here text ≡ found → words_from marks line here (text ∷ more) ≡ (or_broken line found >>= λ word. words_from marks (line + 1) (here + words_in text) more >>= λ others. Ok (option_to_list word ++ others))
 unfolding words_from
 one_line marks line here text more found h = ap (λ f. or_broken line f >>= λ word. words_from marks (line + 1) (here + words_in text) more >>= λ others. Ok (option_to_list word ++ others)) h
 

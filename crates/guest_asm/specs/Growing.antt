@@ -1,5 +1,5 @@
 -- The job that grows: n guests, each of which maps three pages, writes eight bytes from the first and unmaps them, fifty times.
-use Rattle.std.specs.Prelude.{ℕ, ◌+◌, ◌*◌, ◌^◌, List, [], ◌∷◌, ◌++◌, map, decimal}
+use Rattle.std.specs.Prelude.{ℕ, ◌+◌, ◌*◌, ◌^◌, List, [], ◌∷◌, map, decimal}
 use Rattle.mck_word.specs.Lists.{count_from}
 use Rattle.job_model.specs.declared.image.Image.{Image}
 use Rattle.job_model.specs.declared.job.Job.{Job}

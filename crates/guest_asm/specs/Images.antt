@@ -2,7 +2,6 @@
 use Rattle.std.specs.Prelude.{ℕ, ◌+◌, List, [], ◌∷◌, ◌++◌, flat_map, length, replicate}
 use Rattle.byteorder.specs.Endian.{little_bytes}
 use Rattle.job_model.specs.declared.image.Image.{Image}
-use Rattle.job_model.specs.declared.image.Segment.{Segment}
 
 abbrev pub code_of : List ℕ → List ℕ
 code_of words = flat_map (λ w. little_bytes 4 w) words

@@ -1,6 +1,7 @@
 // The text of words.
-ghost use Rattle.std.specs.Prelude.{◌≡◌, ◌++◌, ◌∷◌, [], OnOk, IfOk, decimal};
+ghost use Rattle.std.specs.Prelude.{◌≡◌, ◌++◌, ◌∷◌, [], OnOk, IfOk, Ok, decimal};
 ghost use Rattle.std.specs.Fmt.{signed_decimal};
+ghost use Rattle.guest_asm.specs.Assembly.{words_of};
 ghost use Rattle.guest_asm.specs.Names.{name_of};
 ghost use Rattle.guest_asm.specs.Listing.{register_text, place_text, i_text, form_text, number_text, listed_form, line_of, listing_of, two, three};
 
@@ -154,7 +155,10 @@ fn add_line(text: &mut Bytes, word: u32) -> Result<(), NoMemory>
 /// The text of words, a line for each: an instruction with x names, decimal numbers and offsets for labels, or `.word` and the
 /// number of what is none.
 pub fn listing(alloc: Global, words: &[u32]) -> Result<Bytes, NoMemory>
-    ensures { IfOk result (λ text. text ≡ listing_of words.now) }
+    ensures value { IfOk result (λ text. text ≡ listing_of words.now) }
+
+    // The text assembles to the same words.
+    ensures again { IfOk result (λ text. words_of text ≡ Ok words.now) }
 {
     let mut text = Bytes::new(alloc);
     for word in words {
