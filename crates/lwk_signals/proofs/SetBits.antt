@@ -1,12 +1,12 @@
 -- Bits of a set.
-use Rattle.kernel_model.specs.SignalSets.{has, lowest, with_signal}
+use Rattle.kernel_model.specs.SignalSets.{has, lowest}
 use Rattle.mck_word.specs.Lists.{count_from}
-use Rattle.std.proofs.Common.{◌≡◌, ◌+◌, ◌-◌, ◌*◌, ◌%◌, ◌/◌, ◌^◌, ◌<◌, ◌≤◌, ℕ, zero, suc, Bool, true, false, cond, eqb, Some, None, refl, sym, ap, subst, ◌∙◌, inl, inr, arith}
-use Rattle.std.proofs.lemmas.Bool.{cases_eq, eqb-false, eqb-true, eq-eqb, ne_eqb}
+use Rattle.std.proofs.Common.{◌≡◌, ◌+◌, ◌-◌, ◌^◌, ◌<◌, ◌≤◌, ℕ, zero, suc, Bool, true, false, eqb, Some, ap, ◌∙◌, inl, inr, arith}
+use Rattle.std.proofs.lemmas.Bool.{cases_eq, eqb-false, eq-eqb, ne_eqb}
 use Rattle.std.proofs.lemmas.Nat.Bits.{and_pow, bit_at-lt, bit_at-trailing_zeros}
 use Rattle.std.proofs.lemmas.Nat.{or_disjoint}
 use Rattle.std.specs.Int.{bit_at, trailing_zeros, w64}
-use Rattle.std.specs.Prelude.{bit_and, bit_or, find}
+use Rattle.std.specs.Prelude.{bit_or, find}
 
 -- a bit that isn't set is added
 pub or-clear : (set k : ℕ) → eqb (bit_at set k) 1 ≡ false → bit_or set (2 ^ k) ≡ set + 2 ^ k

@@ -100,7 +100,10 @@ fn handlers_begin(rt: HostRuntime) {
     );
     assert_eq!(rt; handler_mask(&restarts, 10, set_of(4, 4)), set_of(3, 4));
     let stopped = interrupted_regs(true, &action, &r);
-    assert_eq!(rt; (stopped.pc, stopped.x[10]), (0x0102_0304_0506_070c, u64::MAX - 3));
+    assert_eq!(rt;
+        (stopped.pc, stopped.x[10]),
+        (0x0102_0304_0506_070c, u64::MAX - 3)
+    );
     assert_eq!(rt; interrupted_regs(true, &restarts, &r), r);
     assert_eq!(rt; interrupted_regs(false, &action, &r), r);
     let h = handler_regs(&action, 10, 3824, &r);

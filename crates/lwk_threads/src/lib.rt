@@ -9,12 +9,18 @@
 pub mod clone_values;
 pub mod member_rows;
 
-ghost use Rattle.std.specs.Prelude.{◌≡◌, ◌≤◌, ◌<◌, ◌+◌, ◌-◌, ◌^◌, ◌%◌, OnOk, IsTrue, IsSome, None, Some, option_map, length, filter};
+ghost use Rattle.std.specs.Prelude.{◌≡◌, ◌≤◌, ◌<◌, ◌+◌, ◌-◌, ◌^◌, ◌%◌, OnOk, IsTrue, IsSome, None, Some, option_map, length, filter, List, ℕ, slice_index};
 ghost use Rattle.std.specs.Option.{option_copied};
 ghost use Rattle.kernel_model.specs.Nodes.{most_threads};
 ghost use Rattle.key_rows.specs.Table.{key_from};
 ghost use Rattle.mck_word.specs.Maps.{at, values};
-ghost use Rattle.lwk_threads.specs.Threads.{changed, first_thread, is_of, live_threads, lives, lowest_free_place, no_threads, peers_of, stands_at, with_clone, with_thread, without_thread};
+ghost use Rattle.lwk_threads.specs.Threads.{Threads, changed, cloned, first_thread, is_of, live_threads, lives, lowest_free_place, no_threads, peers_of, stands_at, with_clone, with_thread, without_thread};
+ghost use Rattle.kernel_model.specs.CloneCalls.{cloned_thread};
+ghost use Rattle.kernel_model.specs.Nodes.{Node};
+ghost use Rattle.kernel_model.specs.declared.Does.{Does};
+ghost use Rattle.kernel_model.specs.declared.Does.TheVariants.{Ready};
+ghost use Rattle.lwk_threads.specs.Shown.{shown, shown_threads};
+ghost use Rattle.lwk_threads.specs.declared.Thread.{Thread as ThreadOf};
 
 pub use clone_values::child_registers;
 use clone_values::clear_of_clone;
@@ -269,6 +275,12 @@ pub fn core_of(tid: Tid, cores: u32) -> u32
 {
     tid.0 % cores
 }
+
+/// A thread that is cloned is the one that the clone call of the two kernels makes, in each node that shows the table, where the new
+/// state is Ready.
+pub fn clone_is_the_call<S>()
+    ensures { (does : S → Does) (node : Node) (t : Threads S) (x : ThreadOf S) (args : List ℕ) (state : S) → node.threads ≡ shown_threads does t → does state ≡ Ready → cloned_thread node (shown does x) (slice_index args 0) (slice_index args 1) (slice_index args 3) (slice_index args 4) ≡ shown does (cloned args state x t) }
+{}
 
 #[cfg(test)]
 mod tests;
