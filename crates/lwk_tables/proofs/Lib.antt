@@ -1,3 +1,4 @@
 pub mod BytesRead
+pub mod BytesWritten
 pub mod OnePage
 pub mod RowSets

@@ -1,18 +1,17 @@
 -- A page added, one dropped, one protected.
 use Rattle.hybrid_model.specs.Sides.{Row}
-use Rattle.hybrid_model.specs.Spaces.{Space, add_page, drop_page, first_number, give_back, insert_frame, page_at_lowest, protect_page, rest_numbers}
+use Rattle.hybrid_model.specs.Spaces.{Space, add_page, drop_page, first_number, give_back, insert_frame, protect_page, rest_numbers}
 use Rattle.kernel_model.specs.Pages.{zero_page}
 use Rattle.kernel_model.specs.Spaces.{each_page}
 use Rattle.lwk_tables.specs.Frames.{frames_map}
 use Rattle.mck_flags.specs.declared.rights.Rights.{Rights}
-use Rattle.mck_word.specs.Lists.{insert_by, member, tail}
-use Rattle.mck_word.specs.MapLaws.{at-cut, at-put, same_rows}
-use Rattle.mck_word.specs.Maps.{Map, at, change, cut, put, set_or_cut}
+use Rattle.mck_word.specs.Lists.{insert_by, tail}
+use Rattle.mck_word.specs.MapLaws.{at-cut, same_rows}
+use Rattle.mck_word.specs.Maps.{Map, at, change, cut, put}
 use Rattle.mck_word.specs.Slots.{by_place, slots-set}
-use Rattle.std.proofs.Common.{ap, arith, inl, inr, refl, sym, subst, ◌∙◌}
-use Rattle.std.proofs.lemmas.Bool.Decides.{nat_tests}
+use Rattle.std.proofs.Common.{ap, arith, inl, inr, refl, sym, ◌∙◌}
 use Rattle.std.proofs.lemmas.Bool.{cases_eq, eq-eqb, ne_eqb}
-use Rattle.std.specs.Prelude.{Bool, List, None, Option, Some, [], ◌∷◌, cond, false, length, map, nat_lt, slice_get, slice_index_or, slice_set, suc, true, zero, ℕ, ◌+◌, ◌<◌, ◌==◌, ◌||◌, ◌≡◌, ◌≢◌, ◌≤◌}
+use Rattle.std.specs.Prelude.{List, None, Some, [], ◌∷◌, cond, length, map, nat_lt, slice_get, slice_set, suc, zero, ℕ, ◌+◌, ◌<◌, ◌≡◌, ◌≤◌}
 
 pub insert-same : (f : ℕ) (xs : List ℕ) → insert_by nat_lt f xs ≡ insert_frame f xs
 insert-same f [] = refl
@@ -53,9 +52,9 @@ dropped page rows frames free w there = λ i. record { table = cut rows page; fr
 
 cut-absent : (rows : Map Row) (page : ℕ) → at rows page ≡ None → cut rows page ≡ rows
 cut-absent rows page absent = same_rows _ _ (λ q. at-cut rows page q ∙ elim (cases_eq q page) [
-    | inl e ↦ ap (λ b. cond b None (at rows q)) (eq-eqb q page e) ∙ sym (ap (at rows) e ∙ absent)
-    | inr o ↦ ap (λ b. cond b None (at rows q)) (ne_eqb q page o)
-  ])
+  | inl e ↦ ap (λ b. cond b None (at rows q)) (eq-eqb q page e) ∙ sym (ap (at rows) e ∙ absent)
+  | inr o ↦ ap (λ b. cond b None (at rows q)) (ne_eqb q page o)
+])
 
 pub drop-absent : (page : ℕ) (sp : Space) → at sp.table page ≡ None → drop_page page sp ≡ sp
 unfolding drop_page

@@ -1,3 +1,4 @@
 pub mod Frames
+pub mod Lacks
 pub mod Rows
 pub mod Spaced

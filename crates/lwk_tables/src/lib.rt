@@ -1,11 +1,13 @@
 //! The space of a process: its page table, its mapped pages and its break, over the frames of the node.
 //!
-//! Promises: `map`, `unmap` and `protect` are the definitions' changes of a space, page by page (hybrid_model's specs/Spaces); the
-//! mapped pages are those of the table. No call but `make_room` and `reserve` takes memory or fails. The conditions on rows, frames and
+//! Promises: `map`, `unmap` and `protect` are the definitions' changes of a space, page by page (hybrid_model's specs/Spaces); `read` and
+//! `write` are the bytes of the memory that the table shows (isa_model's specs/Memory), all or nothing, and name the first page that
+//! lacks (specs/Lacks); the mapped pages are those of the table. No call but `make_room` and `reserve` takes memory or fails. The conditions on rows, frames and
 //! room stand in specs/Rows.
 #![tactic(auto)]
 
-pub mod changes;
+mod bytes;
+mod changes;
 
 ghost use Rattle.frame_pool.specs.Pools.{Pool};
 ghost use Rattle.hybrid_model.specs.Sides.{looked_up};
@@ -13,16 +15,20 @@ ghost use Rattle.hybrid_model.specs.Spaces.{add_page, drop_page, protect_page};
 ghost use Rattle.kernel_model.specs.Pages.{pages_count};
 ghost use Rattle.kernel_model.specs.Spaces.{each_in};
 ghost use Rattle.lwk_tables.specs.Frames.{space};
-ghost use Rattle.lwk_tables.specs.Rows.{AbsentIn, FramesApart, FramesTaken, LiesIn, PresentIn, RoomFor};
+ghost use Rattle.isa_model.specs.Memory.{may_access, read_bytes, write_bytes};
+ghost use Rattle.lwk_tables.specs.Lacks.{IsFirstLack, NoRowHas, memory};
+ghost use Rattle.lwk_tables.specs.Rows.{AbsentIn, FramesApart, FramesIn, FramesTaken, LiesIn, PresentIn, RoomFor};
 ghost use Rattle.mck_word.specs.Maps.{at, no_rows};
+ghost use Rattle.mck_word.specs.declared.Access.TheVariants.{Read, Write};
 ghost use Rattle.mck_word.specs.declared.PageRange.{PageRange as range};
 ghost use Rattle.page_map.specs.Tables.{AreRanges};
-ghost use Rattle.std.specs.Prelude.{◌≡◌, ◌≤◌, ◌<◌, ◌+◌, ◌^◌, ℕ, List, [], OnOk, length};
+ghost use Rattle.std.specs.Prelude.{◌≡◌, ◌≤◌, ◌<◌, ◌+◌, ◌^◌, ℕ, List, [], IfErr, OnErr, OnOk, length, slice_index_or, true};
 
+use bytes::row_at;
 use changes::{add_pages, drop_pages, protect_pages};
 use frame_mem::FrameMem;
 use frame_pool::FramePool;
-use isa_model::allows;
+use isa_model::Lack;
 use mck_flags::Rights;
 use mck_word::{Access, Frame, NoMemory, PageRange};
 use page_map::PageTable;
@@ -89,10 +95,7 @@ impl<T: PageTable> Space<T> {
     pub fn frame_at(&self, page: u64, a: Access) -> Option<(Frame, Rights)>
         ensures { result ≡ looked_up (at (T.rows self.now.table) page) a }
     {
-        match self.table.get(page) {
-            Some(row) => if allows(a, row.1) { Some(row) } else { None },
-            None => None,
-        }
+        row_at(&self.table, page, a)
     }
 
     /// Makes room for the pages of the ranges, which rise, are disjoint and end at 2^27 at most.
@@ -161,5 +164,53 @@ impl<T: PageTable> Space<T> {
         ensures keeps { (rs : List range) → T.has_room self.old.table rs → T.has_room self.new.table rs }
     {
         protect_pages(&mut self.table, r, rights);
+    }
+
+    /// Reads bytes, or names the first page that is absent or lacks the read right, and reads nothing then.
+    pub fn read(&self, mem: &FrameMem, address: u64, into: &mut [u8]) -> Result<(), Lack>
+        requires { FramesIn (T.rows self.now.table) mem.now }
+        ensures read { OnOk result (into.new ≡ read_bytes (memory (T.rows self.now.table) mem.now) address (length into.old)) }
+        ensures may { OnOk result (may_access (memory (T.rows self.now.table) mem.now) Read address (length into.old) ≡ true) }
+        ensures lack { IfErr result (λ l. IsFirstLack (memory (T.rows self.now.table) mem.now) Read address (length into.old) l) }
+        ensures unread { OnErr result (into.new ≡ into.old) }
+    {
+        bytes::read(&self.table, mem, address, into)
+    }
+
+    /// Writes bytes, or names the first page that is absent or lacks the write right, and writes nothing then.
+    pub fn write(&self, mem: &mut FrameMem, address: u64, from: &[u8]) -> Result<(), Lack>
+        requires frames { FramesIn (T.rows self.now.table) mem.old }
+        requires apart { FramesApart (T.rows self.now.table) }
+        ensures may { OnOk result (may_access (memory (T.rows self.now.table) mem.old) Write address (length from.now) ≡ true) }
+        ensures memory { OnOk result (memory (T.rows self.now.table) mem.new ≡ write_bytes (memory (T.rows self.now.table) mem.old) address from.now) }
+        ensures others { (f : ℕ) → NoRowHas (T.rows self.now.table) f → slice_index_or mem.new f [] ≡ slice_index_or mem.old f [] }
+        ensures len { length mem.new ≡ length mem.old }
+        ensures lack { IfErr result (λ l. IsFirstLack (memory (T.rows self.now.table) mem.old) Write address (length from.now) l) }
+        ensures unwritten { OnErr result (mem.new ≡ mem.old) }
+    {
+        bytes::write(&self.table, mem, address, from)
+    }
+}
+
+#[cfg(test)]
+mod tests {
+    use super::*;
+    use page_map::PageMap;
+
+    #[test]
+    fn an_empty_space(rt: HostRuntime) {
+        let made: Result<PageMap, NoMemory> = PageTable::empty(rt.alloc());
+        assert!(rt; made.is_ok());
+        if let Ok(table) = made {
+            let mut space = Space::new(rt.alloc(), table);
+            let room = space.make_room(&[PageRange { lo: 16, hi: 18 }]).is_ok()
+                && space.reserve(2).is_ok();
+            assert!(rt; room);
+            assert_eq!(rt; space.frame_at(16, Access::Read), None);
+            assert_eq!(rt; space.areas().gap(1), Some(0x3ef_ffff));
+            space.set_brk(0x1_2345);
+            assert_eq!(rt; space.areas().brk_of(), 0x1_2345);
+            assert_eq!(rt; space.table().get(16), None);
+        }
     }
 }

@@ -1,11 +1,11 @@
 use Rattle.frame_pool.specs.Pools.{Pool}
-use Rattle.hybrid_model.specs.Spaces.{Space, add_page}
+use Rattle.hybrid_model.specs.Spaces.{add_page}
 use Rattle.kernel_model.specs.Spaces.{each_page}
 use Rattle.lwk_tables.proofs.OnePage.{added, each-step}
 use Rattle.lwk_tables.proofs.RowSets.{at-other, pages-grow, present-put}
 use Rattle.lwk_tables.specs.Frames.{space}
 use Rattle.mck_word.specs.Maps.{at}
-use Rattle.std.proofs.Common.{◌≡◌, ◌+◌, ◌-◌, ◌<◌, ◌≤◌, arith, ap, length, suc, sym, ◌∙◌}
+use Rattle.std.proofs.Common.{◌≡◌, ◌+◌, ◌-◌, ◌<◌, arith, ap, length, suc, sym, ◌∙◌}
 use Rattle.std.specs.Prelude.{Some, is_some, slice_get}
 use Rattle.std.proofs.Math.ListN.{length-set}
 use Rattle.std.proofs.lemmas.List.{length-drop}
@@ -23,11 +23,12 @@ loop-page-preserved g c =
     let step = (λ j. space (c.insert.ensures.row j) (c.zero.ensures.zero j) (c.take.ensures.rest j)) ∙ added c.args.rights page f rows c.loop-page.mem c.loop-page.pool.free first inside in
     record {
       left = ap (each_page (add_page c.args.rights) (c.args.r.now.hi - (page + 1)) (page + 1)) step
-        ∙ sym (each-step (add_page c.args.rights) _ _ page (space rows c.loop-page.mem c.loop-page.pool) e) ∙ was.left;
+          ∙ sym (each-step (add_page c.args.rights) _ _ page (space rows c.loop-page.mem c.loop-page.pool) e) ∙ was.left;
       absent = λ k a b. ap (λ m. at m k) c.insert.ensures.row ∙ (at-other rows page k (c.in-Some.f, c.args.rights) (λ (x : k ≡ page). absurd (omega arith)) ∙ was.absent k (omega arith) b);
       enough = let less = ap (λ (p : Pool). length p.free) c.take.ensures.rest in omega (arith, length-drop 1 c.loop-page.pool.free, was.enough);
       pool = ap (λ (p : Pool). p.frames) c.take.ensures.rest ∙ was.pool;
       mem = ap length c.zero.ensures.zero ∙ (length-set c.loop-page.mem f _ ∙ was.mem);
       room = let room = was.room in (room.0, c.insert.ensures.keeps room.0 (room.2 page (omega arith) (omega arith)) room.1, room.2);
       keeps = λ rs lies h. c.insert.ensures.keeps rs (lies page (omega arith) (omega arith)) (was.keeps rs lies h);
-      pages = λ p. ap (λ m. is_some (at m p)) c.insert.ensures.row ∙ (present-put rows page p (c.in-Some.f, c.args.rights) ∙ pages-grow _ _ c.args.r.now.lo page p (omega arith) (was.pages p)) }
+      pages = λ p. ap (λ m. is_some (at m p)) c.insert.ensures.row ∙ (present-put rows page p (c.in-Some.f, c.args.rights) ∙ pages-grow _ _ c.args.r.now.lo page p (omega arith) (was.pages p));
+    }

@@ -17,4 +17,5 @@ invariant-loop-page g l = record {
   mem : length l.mem ≡ length l.fn.mem;
   room : RoomFor (g.T.PageTable.has_room l.table) l.r;
   keeps : (rs : List PageRange) → LiesIn l.r rs → g.T.PageTable.has_room l.fn.table rs → g.T.PageTable.has_room l.table rs;
-  pages : (p : ℕ) → is_some (at (g.T.PageTable.rows l.table) p) ≡ (is_some (at (g.T.PageTable.rows l.fn.table) p) || (nat_le l.r.lo p && nat_lt p l.page)) }
+  pages : (p : ℕ) → is_some (at (g.T.PageTable.rows l.table) p) ≡ (is_some (at (g.T.PageTable.rows l.fn.table) p) || (nat_le l.r.lo p && nat_lt p l.page));
+}

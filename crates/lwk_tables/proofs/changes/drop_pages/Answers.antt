@@ -10,7 +10,7 @@ use Rattle.mck_word.specs.Maps.{Map, at, cut}
 use Rattle.mck_word.specs.Lists.{insert_by, member}
 use Rattle.mck_word.specs.declared.Frame.{Frame}
 use Rattle.page_map.specs.NextLaws.{next-none, next-some}
-use Rattle.std.proofs.Common.{◌≡◌, ◌+◌, ◌-◌, ◌<◌, ◌≤◌, arith, ap, false, refl, subst, suc, sym, ◌∙◌}
+use Rattle.std.proofs.Common.{◌≡◌, ◌+◌, ◌-◌, ◌<◌, arith, ap, false, refl, subst, suc, sym, ◌∙◌}
 use Rattle.std.specs.Prelude.{None, Option, Some, is_some, nat_lt, option_map, ℕ}
 use Rattle.lwk_tables.proofs.changes.drop_pages.Goals as goal
 
@@ -55,20 +55,21 @@ loop-page-preserved g c =
       low = omega (arith, next.low, was.low);
       high = omega arith;
       left = λ pages.
-        let sp = space rows pages c.loop-page.pool in
-        let step = (λ j. space (c.remove-f.ensures.rest j) pages (given j)) ∙ dropped page rows (frames_map pages) c.loop-page.pool.free row.0 row.1 in
-        let skipped = drop-none (page - from) from sp (λ k a b. next.least k a (omega arith)) in
-        ap (each_page drop_page (c.args.r.now.hi - (page + 1)) (page + 1)) step
-        ∙ (sym (each-step drop_page (suc (c.args.r.now.hi - (page + 1))) _ page sp refl)
-        ∙ (sym (ap (λ k. each_page drop_page k from sp) e ∙ (each-more drop_page (page - from) (suc (c.args.r.now.hi - (page + 1))) from sp
-            ∙ (λ j. each_page drop_page (suc (c.args.r.now.hi - (page + 1))) (there j) (skipped j))))
-        ∙ was.left pages));
+          let sp = space rows pages c.loop-page.pool in
+          let step = (λ j. space (c.remove-f.ensures.rest j) pages (given j)) ∙ dropped page rows (frames_map pages) c.loop-page.pool.free row.0 row.1 in
+          let skipped = drop-none (page - from) from sp (λ k a b. next.least k a (omega arith)) in
+          ap (each_page drop_page (c.args.r.now.hi - (page + 1)) (page + 1)) step
+          ∙ (sym (each-step drop_page (suc (c.args.r.now.hi - (page + 1))) _ page sp refl)
+          ∙ (sym (ap (λ k. each_page drop_page k from sp) e ∙ (each-more drop_page (page - from) (suc (c.args.r.now.hi - (page + 1))) from sp
+          ∙ (λ j. each_page drop_page (suc (c.args.r.now.hi - (page + 1))) (there j) (skipped j))))
+          ∙ was.left pages));
       taken = subst (λ m. FramesTaken m c.give.new.self) (sym c.remove-f.ensures.rest) (subst (λ p. FramesTaken (cut rows page) p) (sym given) (taken-cut rows page c.loop-page.pool row.0 was.taken was.apart row.1));
       apart = subst (λ m. FramesApart m) (sym c.remove-f.ensures.rest) (apart-cut rows page was.apart);
       pool = ap (λ (p : Pool). p.frames) c.give.ensures ∙ was.pool;
       keeps = λ rs h. c.remove-f.ensures.keeps rs (was.keeps rs h);
       pages = λ p. ap (λ m. is_some (at m p)) c.remove-f.ensures.rest ∙ (present-cut rows page p
-        ∙ pages-shrink _ _ c.args.r.now.lo from page p was.low next.low (was.pages p) (λ a b. ap is_some (next.least p a b))) }
+          ∙ pages-shrink _ _ c.args.r.now.lo from page p was.low next.low (was.pages p) (λ a b. ap is_some (next.least p a b)));
+    }
 
 pub returns-then-page-r-clause-after : goal.returns-then-page-r-clause-after
 returns-then-page-r-clause-after g c = λ pages.

@@ -17,7 +17,8 @@ invariant-loop-page g l = record {
   apart : FramesApart (g.T.PageTable.rows l.table);
   pool : l.pool.frames ≡ l.fn.pool.frames;
   keeps : (rs : List PageRange) → g.T.PageTable.has_room l.fn.table rs → g.T.PageTable.has_room l.table rs;
-  pages : (p : ℕ) → is_some (at (g.T.PageTable.rows l.table) p) ≡ (is_some (at (g.T.PageTable.rows l.fn.table) p) && not (nat_le l.r.lo p && nat_lt p l.from)) }
+  pages : (p : ℕ) → is_some (at (g.T.PageTable.rows l.table) p) ≡ (is_some (at (g.T.PageTable.rows l.fn.table) p) && not (nat_le l.r.lo p && nat_lt p l.from));
+}
 
 abbrev pub decreases-loop-page : goal.decreases-loop-page
 decreases-loop-page g l = l.r.hi - l.from

@@ -3,9 +3,7 @@ use Rattle.kernel_model.specs.Spaces.{each_page}
 use Rattle.lwk_tables.proofs.OnePage.{each-step, protected}
 use Rattle.lwk_tables.proofs.RowSets.{present-change}
 use Rattle.lwk_tables.specs.Frames.{space}
-use Rattle.mck_word.specs.Maps.{at}
 use Rattle.std.proofs.Common.{◌≡◌, ◌+◌, ◌-◌, arith, ap, suc, sym, ◌∙◌}
-use Rattle.std.specs.Prelude.{is_some}
 use Rattle.lwk_tables.proofs.changes.protect_pages.Goals as goal
 
 pub loop-page-preserved : goal.loop-page-preserved
@@ -15,7 +13,8 @@ loop-page-preserved g c =
     let e : c.args.r.now.hi - page ≡ suc (c.args.r.now.hi - (page + 1)) = omega arith in
     record {
       left = λ pages pool. rw c.set_rights.ensures.row
-        (ap (each_page (protect_page c.args.rights) (c.args.r.now.hi - (page + 1)) (page + 1)) (protected c.args.rights page (space (g.T.PageTable.rows c.loop-page.table) pages pool))
-        ∙ sym (each-step (protect_page c.args.rights) _ _ page (space (g.T.PageTable.rows c.loop-page.table) pages pool) e) ∙ was.left pages pool);
+          (ap (each_page (protect_page c.args.rights) (c.args.r.now.hi - (page + 1)) (page + 1)) (protected c.args.rights page (space (g.T.PageTable.rows c.loop-page.table) pages pool))
+          ∙ sym (each-step (protect_page c.args.rights) _ _ page (space (g.T.PageTable.rows c.loop-page.table) pages pool) e) ∙ was.left pages pool);
       keeps = λ rs h. c.set_rights.ensures.keeps rs (was.keeps rs h);
-      pages = λ p. rw c.set_rights.ensures.row (present-change (g.T.PageTable.rows c.loop-page.table) page p _ ∙ was.pages p) }
+      pages = λ p. rw c.set_rights.ensures.row (present-change (g.T.PageTable.rows c.loop-page.table) page p _ ∙ was.pages p);
+    }

@@ -11,4 +11,5 @@ abbrev pub invariant-loop-page : goal.invariant-loop-page
 invariant-loop-page g l = record {
   left : (pages : List (List ℕ)) (pool : Pool) → each_page (protect_page l.rights) (l.r.hi - l.page) l.page (space (g.T.PageTable.rows l.table) pages pool) ≡ each_in (protect_page l.rights) l.r (space (g.T.PageTable.rows l.fn.table) pages pool);
   keeps : (rs : List PageRange) → g.T.PageTable.has_room l.fn.table rs → g.T.PageTable.has_room l.table rs;
-  pages : (p : ℕ) → is_some (at (g.T.PageTable.rows l.table) p) ≡ is_some (at (g.T.PageTable.rows l.fn.table) p) }
+  pages : (p : ℕ) → is_some (at (g.T.PageTable.rows l.table) p) ≡ is_some (at (g.T.PageTable.rows l.fn.table) p);
+}
