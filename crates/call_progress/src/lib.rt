@@ -5,6 +5,8 @@
 //! What contracts see of a `Progress` is in specs/Kept.
 #![tactic(auto)]
 
+pub mod acts;
+pub mod ends;
 pub mod progress;
 
 pub use progress::Progress;

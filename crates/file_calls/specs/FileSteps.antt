@@ -39,7 +39,7 @@ answered NotReady value = answer.NotReady
 answered FileStep value = answer.Done value
 
 -- how many bytes a step gives out with its answer
-abbrev len_of : FileOp → ℤ → ℕ
+abbrev pub len_of : FileOp → ℤ → ℕ
 len_of (Pipe2 flags) value = len_with 8 value
 len_of (Fstat fd) value = len_with 128 value
 len_of (Getdents fd most) value = len_said value
@@ -51,7 +51,7 @@ given_len op (answer.Done value) = len_of op value
 given_len op answer.NotReady = 0
 
 -- the description that the act of a reading or writing call answers is a u32
-abbrev IsSmall : FileAns → Type 0
+abbrev pub IsSmall : FileAns → Type 0
 IsSmall (answer.Done value) = value <ℤ pos (2 ^ 32)
 IsSmall answer.NotReady = Unit {0}
 
