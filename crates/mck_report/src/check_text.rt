@@ -1,5 +1,5 @@
 // What a check of a job writes.
-ghost use Rattle.elf_load.specs.Kept.{IsImage, IsSegment};
+ghost use Rattle.job_model.specs.Images.{IsImage, IsSegment};
 ghost use Rattle.kernel_model.specs.Layout.{needed_frames};
 ghost use Rattle.kernel_model.specs.Pages.{pages_count, pages_of};
 ghost use Rattle.mck_report.specs.Checks.{address_text, check_parts, frames_needed, guest_parts, guests_parts, hex_digits, rights_text, segment_line};

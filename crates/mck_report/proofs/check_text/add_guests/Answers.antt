@@ -1,4 +1,4 @@
-use Rattle.elf_load.specs.Kept.{IsImage}
+use Rattle.job_model.specs.Images.{IsImage}
 use Rattle.job_model.specs.declared.image.Image.{Image}
 use Rattle.mck_report.proofs.Frames.{all_first, all_rest, first_shorter}
 use Rattle.mck_report.proofs.Lines.{parts_front}

@@ -1,4 +1,4 @@
-use Rattle.elf_load.specs.Kept.{IsImage}
+use Rattle.job_model.specs.Images.{IsImage}
 use Rattle.mck_report.proofs.check_text.add_guests.Given as goal
 use Rattle.mck_report.specs.Checks.{frames_needed, guests_parts}
 use Rattle.run_model.specs.Texts.{text_of}

@@ -1,4 +1,4 @@
-use Rattle.elf_load.specs.Kept.{IsSegment}
+use Rattle.job_model.specs.Images.{IsSegment}
 use Rattle.mck_report.proofs.Frames.{all_first, all_rest, first_counted, first_shorter, needed, pages_of_segments}
 use Rattle.mck_report.proofs.check_text.needed_frames.Goals as goal
 use Rattle.std.proofs.Common.{ap, arith, length, ◌≡◌}

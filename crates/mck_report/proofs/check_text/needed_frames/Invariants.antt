@@ -1,4 +1,4 @@
-use Rattle.elf_load.specs.Kept.{IsSegment}
+use Rattle.job_model.specs.Images.{IsSegment}
 use Rattle.kernel_model.specs.Layout.{needed_frames}
 use Rattle.mck_report.proofs.Frames.{pages_of_segments}
 use Rattle.mck_report.proofs.check_text.needed_frames.Given as goal

@@ -1,0 +1,325 @@
+// The chain of refusals before a run.
+ghost use Rattle.job_model.specs.Images.{IsImage};
+ghost use Rattle.job_model.specs.Prepared.{IsPrepared, most_file};
+ghost use Rattle.job_text.specs.Kept.{IsJob};
+ghost use Rattle.mcexec_run.specs.Chain.{Gives, IsFilled, IsRefusal, RoseAmong, fetched, file_bytes, guest_image, image_name, job_at, names_of_job, take_all, take_file, take_guest, take_input, take_kind, take_source, IsPlaced, IsSource, images_in, images_made, nothing_fetched};
+ghost use Rattle.job_text.specs.declared.order.SourceKind.TheVariants.{Guest, File, Input};
+ghost use Rattle.std.specs.List.{AllByRecursion};
+ghost use Rattle.mck_report.specs.declared.status.Status.TheVariants.{HostFault};
+ghost use Rattle.outside.specs.Outside.{Held, HostGoesOn, Rose, WhereTold};
+ghost use Rattle.std.specs.Prelude.{◌≡◌, ◌≤◌, ◌<◌, ◌+◌, ◌^◌, [], Some, IfErr, IfOk, IsErrOf, IsUtf8, OnOk, length, slice_get, unwrap_or};
+ghost use Rattle.std.specs.Option.{option_copied};
+
+use elf_load::{ElfError, Image, load};
+use job_text::{FileLine, GuestLine, InputLine, Job, JobError, Source, SourceKind, read_job, sources};
+use mck_report::Status;
+use mck_word::{Bytes, Items, NoMemory};
+use outside::{Fetch, Host};
+use std::alloc::Global;
+use std::str;
+
+/// A job with all that was fetched for it: its files and inputs with their bytes, and one image for each guest.
+#[derive(Drop)]
+pub struct Prepared {
+    pub job: Job,
+    pub images: Items<Image>,
+}
+
+/// What was fetched for the lines of a job so far.
+#[derive(Drop)]
+pub struct Fetched {
+    pub images: Items<Image>,
+    pub files: Items<FileLine>,
+    pub inputs: Items<InputLine>,
+}
+
+// The bytes of a name.
+fn fetch_name<H: Host>(alloc: Global, host: &mut H, name: &[u8]) -> Result<Vec<u8>, Status>
+    requires { IsUtf8 name.now }
+    ensures goes_on { HostGoesOn H.holds H.faults host.old host.new }
+    ensures refusal { IfErr result IsRefusal }
+    ensures value { WhereTold (H.holds host.old) (λ held. Gives (λ (bytes : _). bytes.items) result (fetched (held name.now))) }
+    ensures fault { IsErrOf result HostFault → Rose (H.faults host.old name.now) (H.faults host.new name.now) }
+{
+    let mut bytes = Vec::new(alloc);
+    let Ok(text) = str::from_utf8(name) else {
+        return Err(Status::HostFault);
+    };
+    match host.fetch(text, &mut bytes) {
+        Ok(()) => Ok(bytes),
+        Err(Fetch::Failed) => Err(Status::HostFault),
+        Err(Fetch::NoMemory) => Err(Status::NoMemory),
+    }
+}
+
+fn image_name(line: &GuestLine) -> &[u8]
+    ensures { result.now ≡ image_name line.now }
+{
+    match line.args.as_slice().first() {
+        Some(name) => name.as_slice(),
+        None => &[],
+    }
+}
+
+// The image of a guest.
+#[tactic(auto, unfolding(crate::specs::Chain::guest_image))]
+fn fetch_image<H: Host>(
+    alloc: Global,
+    host: &mut H,
+    guest: u32,
+    line: &GuestLine,
+) -> Result<Image, Status>
+    requires { IsUtf8 (image_name line.now) }
+    ensures goes_on { HostGoesOn H.holds H.faults host.old host.new }
+    ensures refusal { IfErr result IsRefusal }
+    ensures value { WhereTold (H.holds host.old) (λ held. Gives (λ image. image) result (guest_image held guest line.now)) }
+    ensures fault { IsErrOf result HostFault → Rose (H.faults host.old (image_name line.now)) (H.faults host.new (image_name line.now)) }
+    ensures image { IfOk result IsImage }
+{
+    let bytes = fetch_name(alloc, host, image_name(line))?;
+    match load(alloc, &bytes) {
+        Ok(image) => Ok(image),
+        Err(ElfError::Fault(why)) => Err(Status::BadElf { guest, why }),
+        Err(ElfError::NoMemory) => Err(Status::NoMemory),
+    }
+}
+
+// The bytes of a file or an input.
+#[tactic(auto, unfolding(crate::specs::Chain::file_bytes))]
+fn fetch_file<H: Host>(
+    alloc: Global,
+    host: &mut H,
+    line: u64,
+    name: &[u8],
+) -> Result<Bytes, Status>
+    requires { IsUtf8 name.now }
+    ensures goes_on { HostGoesOn H.holds H.faults host.old host.new }
+    ensures refusal { IfErr result IsRefusal }
+    ensures value { WhereTold (H.holds host.old) (λ held. Gives (λ bytes. bytes) result (file_bytes held line name.now)) }
+    ensures fault { IsErrOf result HostFault → Rose (H.faults host.old name.now) (H.faults host.new name.now) }
+    ensures short { IfOk result (λ bytes. length bytes ≤ most_file) }
+{
+    let bytes = fetch_name(alloc, host, name)?;
+    if bytes.len() > 1_048_576 {
+        return Err(Status::LongFile(line));
+    }
+    Ok(Bytes::from_vec(bytes))
+}
+
+// The job under a name.
+#[tactic(auto, unfolding(crate::specs::Chain::job_at))]
+fn fetch_job<H: Host>(alloc: Global, host: &mut H, name: &str) -> Result<Job, Status>
+    ensures goes_on { HostGoesOn H.holds H.faults host.old host.new }
+    ensures refusal { IfErr result IsRefusal }
+    ensures value { WhereTold (H.holds host.old) (λ held. Gives (λ job. job) result (job_at held name.now)) }
+    ensures fault { IsErrOf result HostFault → Rose (H.faults host.old name.now) (H.faults host.new name.now) }
+    ensures job { IfOk result IsJob }
+{
+    let text = fetch_name(alloc, host, name.as_bytes())?;
+    match read_job(alloc, &text) {
+        Ok(job) => Ok(job),
+        Err(JobError::Fault(fault)) => Err(Status::BadJob(fault)),
+        Err(JobError::NoMemory) => Err(Status::NoMemory),
+    }
+}
+
+fn file_with(alloc: Global, line: &FileLine, bytes: Bytes) -> Result<FileLine, NoMemory>
+    ensures { IfOk result (λ file. file ≡ record line.now { bytes = bytes }) }
+{
+    Ok(FileLine {
+        line: line.line,
+        path: Bytes::from_slice(alloc, line.path.as_slice())?,
+        name: Bytes::from_slice(alloc, line.name.as_slice())?,
+        bytes,
+    })
+}
+
+fn input_with(alloc: Global, line: &InputLine, bytes: Bytes) -> Result<InputLine, NoMemory>
+    ensures { IfOk result (λ input. input ≡ record line.now { bytes = bytes }) }
+{
+    Ok(InputLine {
+        line: line.line,
+        guest: line.guest,
+        name: Bytes::from_slice(alloc, line.name.as_slice())?,
+        bytes,
+    })
+}
+
+// A guest's image is fetched.
+fn take_guest<H: Host>(
+    alloc: Global,
+    host: &mut H,
+    guest: u32,
+    line: &GuestLine,
+    fetched: &mut Fetched,
+) -> Result<(), Status>
+    requires { IsUtf8 (image_name line.now) }
+    ensures goes_on { HostGoesOn H.holds H.faults host.old host.new }
+    ensures refusal { IfErr result IsRefusal }
+    ensures value { WhereTold (H.holds host.old) (λ held. Gives (λ _. fetched.new) result (take_guest held guest fetched.old (Some line.now))) }
+    ensures fault { IsErrOf result HostFault → Rose (H.faults host.old (image_name line.now)) (H.faults host.new (image_name line.now)) }
+    ensures kept { IsFilled fetched.old → IsFilled fetched.new }
+    ensures count { OnOk result (length fetched.new.images ≡ length fetched.old.images + 1) }
+{
+    let image = fetch_image(alloc, host, guest, line)?;
+    fetched.images.push(image)?;
+    Ok(())
+}
+
+// A file's bytes are fetched.
+fn take_file<H: Host>(
+    alloc: Global,
+    host: &mut H,
+    line: &FileLine,
+    fetched: &mut Fetched,
+) -> Result<(), Status>
+    requires { IsUtf8 line.now.name }
+    ensures goes_on { HostGoesOn H.holds H.faults host.old host.new }
+    ensures refusal { IfErr result IsRefusal }
+    ensures value { WhereTold (H.holds host.old) (λ held. Gives (λ _. fetched.new) result (take_file held fetched.old (Some line.now))) }
+    ensures fault { IsErrOf result HostFault → Rose (H.faults host.old line.now.name) (H.faults host.new line.now.name) }
+    ensures kept { IsFilled fetched.old → IsFilled fetched.new }
+    ensures count { OnOk result (length fetched.new.images ≡ length fetched.old.images) }
+{
+    let bytes = fetch_file(alloc, host, line.line, line.name.as_slice())?;
+    let file = file_with(alloc, line, bytes)?;
+    fetched.files.push(file)?;
+    Ok(())
+}
+
+// An input's bytes are fetched.
+fn take_input<H: Host>(
+    alloc: Global,
+    host: &mut H,
+    line: &InputLine,
+    fetched: &mut Fetched,
+) -> Result<(), Status>
+    requires { IsUtf8 line.now.name }
+    ensures goes_on { HostGoesOn H.holds H.faults host.old host.new }
+    ensures refusal { IfErr result IsRefusal }
+    ensures value { WhereTold (H.holds host.old) (λ held. Gives (λ _. fetched.new) result (take_input held fetched.old (Some line.now))) }
+    ensures fault { IsErrOf result HostFault → Rose (H.faults host.old line.now.name) (H.faults host.new line.now.name) }
+    ensures kept { IsFilled fetched.old → IsFilled fetched.new }
+    ensures count { OnOk result (length fetched.new.images ≡ length fetched.old.images) }
+{
+    let bytes = fetch_file(alloc, host, line.line, line.name.as_slice())?;
+    let input = input_with(alloc, line, bytes)?;
+    fetched.inputs.push(input)?;
+    Ok(())
+}
+
+// The guest line at a place among those of its kind is fetched.
+fn take_guest_at<H: Host>(
+    alloc: Global,
+    host: &mut H,
+    job: &Job,
+    place: usize,
+    fetched: &mut Fetched,
+) -> Result<(), Status>
+    requires job { IsJob job.now }
+    requires placed { place < length job.now.guests }
+    ensures goes_on { HostGoesOn H.holds H.faults host.old host.new }
+    ensures refusal { IfErr result IsRefusal }
+    ensures value { WhereTold (H.holds host.old) (λ held. Gives (λ _. fetched.new) result (take_kind held job.now Guest place fetched.old)) }
+    ensures fault { IsErrOf result HostFault → RoseAmong H.faults host.old host.new (names_of_job job.now) }
+    ensures kept { IsFilled fetched.old → IsFilled fetched.new }
+    ensures count { OnOk result (length fetched.new.images ≡ length fetched.old.images + images_made Guest) }
+{
+    let line = &job.guests.as_slice()[place];
+    take_guest(alloc, host, place as u32 + 1, line, fetched)
+}
+
+// The file line at a place among those of its kind is fetched.
+fn take_file_at<H: Host>(
+    alloc: Global,
+    host: &mut H,
+    job: &Job,
+    place: usize,
+    fetched: &mut Fetched,
+) -> Result<(), Status>
+    requires job { IsJob job.now }
+    requires placed { place < length job.now.files }
+    ensures goes_on { HostGoesOn H.holds H.faults host.old host.new }
+    ensures refusal { IfErr result IsRefusal }
+    ensures value { WhereTold (H.holds host.old) (λ held. Gives (λ _. fetched.new) result (take_kind held job.now File place fetched.old)) }
+    ensures fault { IsErrOf result HostFault → RoseAmong H.faults host.old host.new (names_of_job job.now) }
+    ensures kept { IsFilled fetched.old → IsFilled fetched.new }
+    ensures count { OnOk result (length fetched.new.images ≡ length fetched.old.images + images_made File) }
+{
+    let line = &job.files.as_slice()[place];
+    take_file(alloc, host, line, fetched)
+}
+
+// The input line at a place among those of its kind is fetched.
+fn take_input_at<H: Host>(
+    alloc: Global,
+    host: &mut H,
+    job: &Job,
+    place: usize,
+    fetched: &mut Fetched,
+) -> Result<(), Status>
+    requires job { IsJob job.now }
+    requires placed { place < length job.now.inputs }
+    ensures goes_on { HostGoesOn H.holds H.faults host.old host.new }
+    ensures refusal { IfErr result IsRefusal }
+    ensures value { WhereTold (H.holds host.old) (λ held. Gives (λ _. fetched.new) result (take_kind held job.now Input place fetched.old)) }
+    ensures fault { IsErrOf result HostFault → RoseAmong H.faults host.old host.new (names_of_job job.now) }
+    ensures kept { IsFilled fetched.old → IsFilled fetched.new }
+    ensures count { OnOk result (length fetched.new.images ≡ length fetched.old.images + images_made Input) }
+{
+    let line = &job.inputs.as_slice()[place];
+    take_input(alloc, host, line, fetched)
+}
+
+// What a line of the job names is fetched.
+fn take_source<H: Host>(
+    alloc: Global,
+    host: &mut H,
+    job: &Job,
+    source: &Source,
+    fetched: &mut Fetched,
+) -> Result<(), Status>
+    requires job { IsJob job.now }
+    requires placed { IsPlaced job.now source.now.kind source.now.place }
+    ensures goes_on { HostGoesOn H.holds H.faults host.old host.new }
+    ensures refusal { IfErr result IsRefusal }
+    ensures value { WhereTold (H.holds host.old) (λ held. Gives (λ _. fetched.new) result (take_source held job.now source.now fetched.old)) }
+    ensures fault { IsErrOf result HostFault → RoseAmong H.faults host.old host.new (names_of_job job.now) }
+    ensures kept { IsFilled fetched.old → IsFilled fetched.new }
+    ensures count { OnOk result (length fetched.new.images ≡ length fetched.old.images + images_made source.now.kind) }
+{
+    match source.kind {
+        SourceKind::Guest => take_guest_at(alloc, host, job, source.place, fetched),
+        SourceKind::File => take_file_at(alloc, host, job, source.place, fetched),
+        SourceKind::Input => take_input_at(alloc, host, job, source.place, fetched),
+    }
+}
+
+// What the lines of the job name is fetched, one after another.
+fn take_all<H: Host>(
+    alloc: Global,
+    host: &mut H,
+    job: &Job,
+    all: &[Source],
+) -> Result<Fetched, Status>
+    requires job { IsJob job.now }
+    requires placed { AllByRecursion (IsSource job.now) all.now }
+    ensures goes_on { HostGoesOn H.holds H.faults host.old host.new }
+    ensures refusal { IfErr result IsRefusal }
+    ensures value { WhereTold (H.holds host.old) (λ held. Gives (λ f. f) result (take_all held job.now all.now nothing_fetched)) }
+    ensures fault { IsErrOf result HostFault → RoseAmong H.faults host.old host.new (names_of_job job.now) }
+    ensures filled { IfOk result IsFilled }
+    ensures count { IfOk result (λ f. length f.images ≡ images_in all.now) }
+{
+    let mut fetched = Fetched {
+        images: Items::new(alloc),
+        files: Items::new(alloc),
+        inputs: Items::new(alloc),
+    };
+    let mut rest = all;
+    while let Some((source, more)) = rest.split_first() {
+        take_source(alloc, host, job, source, &mut fetched)?;
+        rest = more;
+    }
+    Ok(fetched)
+}

@@ -1,0 +1,13 @@
+//! The top calls of the program: the command that the words are, the chain of refusals before a run, the walk, and what each call
+//! answers, keeps and writes.
+//!
+//! Promises: each status has its cause as a clause, and the outcome of a call is one relation with a case for each row of the table
+//! of statuses; a walk's journal is the one that its order names, legal, up to where no event is offered, and its text is written
+//! byte for byte. The calls are over any `Machine`. The definitions stand in specs/: Commands, Chain, Outcome.
+#![tactic(auto)]
+
+mod chain;
+mod command;
+
+pub use chain::{Fetched, Prepared};
+pub use command::{Command, Form, read_command};
