@@ -48,11 +48,11 @@ falls a b l = omega (arith, l)
 pub below-limit : (b base : ℕ) → base % page_size ≡ 0 → b ≤ base + most_heap → page_end b ≤ page_number (base + most_heap)
 below-limit b base a l = omega (arith, a, l)
 
-not-none : {V : Type 0} (b : Bool) (x : V) → cond b (Some x) None ≡ None → b ≡ false
+pub not-none : {V : Type 0} (b : Bool) (x : V) → cond b (Some x) None ≡ None → b ≡ false
 not-none true x e = absurd (grind (arith, e))
 not-none false x e = refl
 
-is-none : {V : Type 0} (b : Bool) (x : V) → cond b None (Some x) ≡ None → b ≡ true
+pub is-none : {V : Type 0} (b : Bool) (x : V) → cond b None (Some x) ≡ None → b ≡ true
 is-none true x e = refl
 is-none false x e = absurd (grind (arith, e))
 

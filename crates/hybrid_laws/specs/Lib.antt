@@ -113,3 +113,5 @@ pub mod WholeBeginVm
 pub mod WholeAnswerRow
 pub mod WholeIntakeFault
 pub mod WholeIntakeReply
+pub mod EffectCounts
+pub mod WholeEffect
