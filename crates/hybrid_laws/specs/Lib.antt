@@ -115,3 +115,4 @@ pub mod WholeIntakeFault
 pub mod WholeIntakeReply
 pub mod EffectCounts
 pub mod WholeEffect
+pub mod WholeIntakeAck
