@@ -154,7 +154,7 @@ woken-sleepers : (ss : List Sleeper) (a : Node) → (wake_threads ss a).sleepers
 woken-sleepers [] a = refl
 woken-sleepers (s ∷ ss) a = woken-sleepers ss (answered s.thread (pos 0) a)
 
-tally-filter : (f : Sleeper → ℕ) (test : Sleeper → Bool) (ss : List Sleeper) → tally f (filter test ss) ≤ tally f ss
+pub tally-filter : (f : Sleeper → ℕ) (test : Sleeper → Bool) (ss : List Sleeper) → tally f (filter test ss) ≤ tally f ss
 tally-filter f test [] = omega arith
 tally-filter f test (s ∷ ss) = go (test s) (tally-filter f test ss)
   where
@@ -162,7 +162,7 @@ tally-filter f test (s ∷ ss) = go (test s) (tally-filter f test ss)
     go true i = omega (arith, i)
     go false i = omega (arith, i)
 
-each-passes : (test : Sleeper → Bool) (ss : List Sleeper) → Each (λ s. test s ≡ true) (filter test ss)
+pub each-passes : (test : Sleeper → Bool) (ss : List Sleeper) → Each (λ s. test s ≡ true) (filter test ss)
 each-passes test [] = tt
 each-passes test (s ∷ ss) = go (test s) refl (each-passes test ss)
   where

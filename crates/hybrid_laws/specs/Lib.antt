@@ -116,3 +116,4 @@ pub mod WholeIntakeReply
 pub mod EffectCounts
 pub mod WholeEffect
 pub mod WholeIntakeAck
+pub mod WholeInterrupt
