@@ -117,3 +117,4 @@ pub mod EffectCounts
 pub mod WholeEffect
 pub mod WholeIntakeAck
 pub mod WholeInterrupt
+pub mod TrapGoes
