@@ -118,3 +118,4 @@ pub mod WholeEffect
 pub mod WholeIntakeAck
 pub mod WholeInterrupt
 pub mod TrapGoes
+pub mod TrapSteps
