@@ -119,3 +119,5 @@ pub mod WholeIntakeAck
 pub mod WholeInterrupt
 pub mod TrapGoes
 pub mod TrapSteps
+pub mod WholeTrap
+pub mod LwkHolds
