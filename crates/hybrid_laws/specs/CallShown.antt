@@ -23,19 +23,19 @@ use Rattle.std.specs.Prelude.{Bool, None, Option, Some, cond, false, true, unwra
 
 -- the callers' calls as they were, and one more
 module _ (p : ℕ) (side : Side) (node : Node) (worker_count : ℕ) (ring_of : ℕ → ℕ) (h : OfProcess p side node worker_count ring_of) (r t : ℕ) (progress : Progress) where
-  abbrev q : ℕ
+  abbrev pub q : ℕ
   q = side.book.next
 
-  abbrev call : Call
+  abbrev pub call : Call
   call = record { q = record { 0 = q }; tid = record { 0 = t }; number = progress.number; args = progress.arguments }
 
-  status-other : (u : ℕ) (d : Caller) → at side.lwk.callers u ≡ Some d → status_by (with_at (at side.book.rows) q (Some (Posted, call))) (at side.linux.services) (at side.linux.workers) (post r (Request call) side.to_linux) side.to_lwk d.request ≡ status_of side d.request
+  pub status-other : (u : ℕ) (d : Caller) → at side.lwk.callers u ≡ Some d → status_by (with_at (at side.book.rows) q (Some (Posted, call))) (at side.linux.services) (at side.linux.workers) (post r (Request call) side.to_linux) side.to_lwk d.request ≡ status_of side d.request
   status-other u d e =
       let l = (h.answered.calls u d e).given in
       let n : (d.request == q) ≡ false = grind (arith, nat_tests, l) in
       rw n (ap (λ b. status_in (state_in (at side.book.rows d.request)) (call_in (at side.book.rows d.request)) (unwrap_or (at side.linux.services d.request) no_service) b (reply_code d.request side.to_lwk)) (has_empty-post (at side.linux.workers) d.request r (Request call) side.to_linux refl))
 
-  status-own : status_by (with_at (at side.book.rows) q (Some (Posted, call))) (at side.linux.services) (at side.linux.workers) (post r (Request call) side.to_linux) side.to_lwk q ≡ Active (first_progress call)
+  pub status-own : status_by (with_at (at side.book.rows) q (Some (Posted, call))) (at side.linux.services) (at side.linux.workers) (post r (Request call) side.to_linux) side.to_lwk q ≡ Active (first_progress call)
   status-own = let e : (q == q) ≡ true = grind (arith, nat_tests) in rw e refl
 
   -- what is shown of the calls after it

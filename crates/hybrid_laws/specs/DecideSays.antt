@@ -58,7 +58,7 @@ found-test test (x ∷ xs) y e = go (test x) refl e (found-test test xs y)
     go true f k i = let g : x ≡ y = cc in ap test (sym g) ∙ f
     go false f k i = i k
 
-empty-in : (lo hi j : ℕ) → hi ≤ lo → in_range (range lo hi) j ≡ true → ⊥
+pub empty-in : (lo hi j : ℕ) → hi ≤ lo → in_range (range lo hi) j ≡ true → ⊥
 empty-in lo hi j l e = grind (arith, nat_tests, l, e)
 
 not-below : (n k : ℕ) → nat_lt n k ≡ false → k ≤ n

@@ -147,3 +147,7 @@ shown_drop i sp =
 pub shown_drops : (n low : ℕ) (sp : Space) → each_page one.drop_page n low (shown_space sp) ≡ shown_space (each_page drop_page n low sp)
 shown_drops zero low sp = refl
 shown_drops (suc n) low sp = ap (each_page one.drop_page n (suc low)) (shown_drop low sp) ∙ shown_drops n (suc low) (drop_page low sp)
+
+pub drop_own : (i : ℕ) (sp : Space) → at (drop_page i sp).table i ≡ None
+unfolding drop_page
+drop_own i sp = at-cut sp.table i i ∙ (let e : (i == i) ≡ true = grind (arith, nat_tests) in rw e refl)

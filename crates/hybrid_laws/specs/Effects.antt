@@ -115,7 +115,7 @@ module _ (r : PageRange) where
           inside-none-by m h = inside-none m (λ j e. absurd (let k = sym e ∙ h j in grind (arith, k)))
 
 -- ---- adding and protecting
-length-add : (rights : Rights) (i : ℕ) (sp : Space) (n : ℕ) → suc n ≤ length sp.free → n ≤ length (add_page rights i sp).free
+pub length-add : (rights : Rights) (i : ℕ) (sp : Space) (n : ℕ) → suc n ≤ length sp.free → n ≤ length (add_page rights i sp).free
 unfolding add_page
 length-add rights i sp n l = go sp.free l
   where

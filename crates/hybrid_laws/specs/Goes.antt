@@ -6,7 +6,7 @@ use Rattle.hybrid_laws.specs.Reading.{Each-both, Each-map, Each-push, tally-push
 use Rattle.hybrid_laws.specs.Threads.{thread-changed, thread-is, thread-other}
 use Rattle.hybrid_model.specs.Tallies.{Each, if_same, tally}
 use Rattle.kernel_model.specs.LocalCalls.{falls_asleep, is_waiter, waiters, wake, wake_threads}
-use Rattle.kernel_model.specs.Nodes.{Node, Process, Sleeper, Thread, has_ended, is_stopped, answered, change_process, change_thread, process_of, set_a0, thread_of, without_thread}
+use Rattle.kernel_model.specs.Nodes.{Node, Process, Sleeper, Thread, has_ended, is_stopped, answered, change_process, change_thread, process_of, set_a0, thread_of, without_thread, set_does}
 use Rattle.kernel_model.specs.SignalSets.{without_signal}
 use Rattle.kernel_model.specs.Signals.{drop_ignored, ignores}
 use Rattle.kernel_model.specs.declared.Does.{Does}
@@ -154,7 +154,7 @@ woken-sleepers : (ss : List Sleeper) (a : Node) → (wake_threads ss a).sleepers
 woken-sleepers [] a = refl
 woken-sleepers (s ∷ ss) a = woken-sleepers ss (answered s.thread (pos 0) a)
 
-tally-filter : (f : Sleeper → ℕ) (test : Sleeper → Bool) (ss : List Sleeper) → tally f (filter test ss) ≤ tally f ss
+pub tally-filter : (f : Sleeper → ℕ) (test : Sleeper → Bool) (ss : List Sleeper) → tally f (filter test ss) ≤ tally f ss
 tally-filter f test [] = omega arith
 tally-filter f test (s ∷ ss) = go (test s) (tally-filter f test ss)
   where
@@ -162,7 +162,7 @@ tally-filter f test (s ∷ ss) = go (test s) (tally-filter f test ss)
     go true i = omega (arith, i)
     go false i = omega (arith, i)
 
-each-passes : (test : Sleeper → Bool) (ss : List Sleeper) → Each (λ s. test s ≡ true) (filter test ss)
+pub each-passes : (test : Sleeper → Bool) (ss : List Sleeper) → Each (λ s. test s ≡ true) (filter test ss)
 each-passes test [] = tt
 each-passes test (s ∷ ss) = go (test s) refl (each-passes test ss)
   where
@@ -308,3 +308,9 @@ goes-closed t = record {
   woken = λ a process address n. record { goes = wake-goes a process address n; sleep = wake-sleep a process address n t };
   ignored = λ a q signal. record { goes = ignored-goes a q signal; sleep = ignored-sleep a q signal t };
   falls = λ a address. record { goes = falls-goes t a address; sleep = falls-sleep t a address } }
+
+-- ---- a call begins: the thread is Called
+pub called-goes : (t : ℕ) (a : Node) → GoesAwake t a (set_does t Called a)
+called-goes t a = record {
+  goes = goes-threads a (change a.threads t (λ x. record x { does = Called })) (changed-was a.threads t (λ x. record x { does = Called }) (λ x. (refl, refl, λ s. absurd (grind (arith, s)))));
+  sleep = λ w s o. (w, awake-stay t a (set_does t Called a) a.sleepers (λ v n. same-other a t v (λ x. record x { does = Called }) n) w s, o) }

@@ -48,11 +48,11 @@ falls a b l = omega (arith, l)
 pub below-limit : (b base : ℕ) → base % page_size ≡ 0 → b ≤ base + most_heap → page_end b ≤ page_number (base + most_heap)
 below-limit b base a l = omega (arith, a, l)
 
-not-none : {V : Type 0} (b : Bool) (x : V) → cond b (Some x) None ≡ None → b ≡ false
+pub not-none : {V : Type 0} (b : Bool) (x : V) → cond b (Some x) None ≡ None → b ≡ false
 not-none true x e = absurd (grind (arith, e))
 not-none false x e = refl
 
-is-none : {V : Type 0} (b : Bool) (x : V) → cond b None (Some x) ≡ None → b ≡ true
+pub is-none : {V : Type 0} (b : Bool) (x : V) → cond b None (Some x) ≡ None → b ≡ true
 is-none true x e = refl
 is-none false x e = absurd (grind (arith, e))
 
@@ -126,14 +126,14 @@ module _ (p : ℕ) (h : Here) (workers : ℕ) (ring : ℕ → ℕ) (k : OfProces
   abbrev pub c : Change
   c = w.owns.change
 
-  abbrev x : Process
+  abbrev pub x : Process
   x = process_of h.node p
 
-  abbrev over : Here
+  abbrev pub over : Here
   over = with_side h (round_over rest h.side)
 
   -- what is taken, once thread and change are known
-  ack-is : take_ack p rest h ≡ changed p t c (refusal_at_end x (memory_here h) (length h.free) c) over
+  pub ack-is : take_ack p rest h ≡ changed p t c (refusal_at_end x (memory_here h) (length h.free) c) over
   unfolding take_ack
   ack-is =
       let a = w.changing in
@@ -145,17 +145,17 @@ module _ (p : ℕ) (h : Here) (workers : ℕ) (ring : ℕ → ℕ) (k : OfProces
   one-free : (t == t) ≡ true
   one-free = grind (arith, nat_tests)
 
-  abbrev refused_node : ℤ → Node
+  abbrev pub refused_node : ℤ → Node
   refused_node answer = finishes t answer h.node
 
-  abbrev made_node : Node
+  abbrev pub made_node : Node
   made_node = finishes t (answer_of_change c) (set_break p (effect_of x c).program_break h.node)
 
   made-keeps : (q : ℕ) → Keeps q (λ u. u == t) h.node made_node
   made-keeps q = then q (λ u. u == t) (set_break-keeps q (λ u. u == t) h.node p (effect_of x c).program_break) (finishes-free q (λ u. u == t) (set_break p (effect_of x c).program_break h.node) t (answer_of_change c) one-free)
 
   -- the process itself
-  keeps-changed : (o : Option ℤ) → refusal_at_end x (memory_here h) (length h.free) c ≡ o → OfProcess p (changed p t c o over).side (changed p t c o over).node workers ring
+  pub keeps-changed : (o : Option ℤ) → refusal_at_end x (memory_here h) (length h.free) c ≡ o → OfProcess p (changed p t c o over).side (changed p t c o over).node workers ring
   keeps-changed (Some answer) e = keeps_round_over p h.side h.node (refused_node answer) workers ring k rest first w.round w.is t w.changing h.side.lwk.table (λ i o. refl) (finishes-free p (λ u. u == t) h.node t answer one-free)
   keeps-changed None e = keeps_round_over p h.side h.node made_node workers ring k rest first w.round w.is t w.changing (after_effect (effect_of x c) (space_here h)).table agree (made-keeps p)
     where
@@ -173,7 +173,7 @@ module _ (p : ℕ) (h : Here) (workers : ℕ) (ring : ℕ → ℕ) (k : OfProces
       let o = sym there ∙ ap (at h.node.threads) (sym g) ∙ f in
       let s : w.owns.thread ≡ y = cc in sym w.owns.own ∙ ap (λ (z : Thread). z.process) s ∙ own))
 
-  others-changed : (o : Option ℤ) (q : ℕ) (side : Side) (workers : ℕ) (ring : ℕ → ℕ) → p ≢ q → OfProcess q side h.node workers ring → OfProcess q side (changed p t c o over).node workers ring
+  pub others-changed : (o : Option ℤ) (q : ℕ) (side : Side) (workers : ℕ) (ring : ℕ → ℕ) → p ≢ q → OfProcess q side h.node workers ring → OfProcess q side (changed p t c o over).node workers ring
   others-changed (Some answer) q side workers ring other y = node-keeps q (λ u. u == t) side h.node (refused_node answer) workers ring (finishes-free q (λ u. u == t) h.node t answer one-free) (idle-other q other) y
   others-changed None q side workers ring other y = node-keeps q (λ u. u == t) side h.node made_node workers ring (made-keeps q) (idle-other q other) y
 
@@ -184,7 +184,7 @@ module _ (p : ℕ) (h : Here) (workers : ℕ) (ring : ℕ → ℕ) (k : OfProces
   pub may_finish_change : OneSteps.may_here (Steps.VmFinish (tid t)) (shown_here h) ≡ true
   may_finish_change = let there = w.owns.there in let does = w.owns.does in rw (there, does) refl
 
-  calls-stay : (table : Map Row) → each (shown_call h.side) h.side.lwk.callers ≡ each (shown_call (record h.side { lwk = record h.side.lwk { table = table; changing = None }; round = None; to_lwk = rest })) h.side.lwk.callers
+  pub calls-stay : (table : Map Row) → each (shown_call h.side) h.side.lwk.callers ≡ each (shown_call (record h.side { lwk = record h.side.lwk { table = table; changing = None }; round = None; to_lwk = rest })) h.side.lwk.callers
   calls-stay table = each-same (shown_call h.side) (shown_call (record h.side { lwk = record h.side.lwk { table = table; changing = None }; round = None; to_lwk = rest })) h.side.lwk.callers (λ u d e. rw first refl)
 
   finish-is : OneSteps.after_here (Steps.VmFinish (tid t)) p (shown_here h) ≡ OneSteps.one_changed p t c (refusal_at_end x (memory_here h) (length h.free) c) (shown_here h)

@@ -42,7 +42,7 @@ use Rattle.std.specs.Prelude.{Bool, List, None, Option, Some, cond, false, if◌
 
 -- ---- a call is marked
 module _ (rows : Reads (ReqState × Call)) (callers : Reads Caller) (next : ℕ) (bs : List Msg) (t : ℕ) (c : Caller) (calls : callers t ≡ Some c) where
-  abbrev marking : Reads Caller
+  abbrev pub marking : Reads Caller
   marking = with_at callers t (Some (record c { marked = true }))
 
   -- a caller after is one before, with the same number
@@ -184,7 +184,7 @@ module _ (p t : ℕ) (side : Side) (node : Node) (workers : ℕ) (ring : ℕ →
 -- ---- the event
 module _ (p : ℕ) (t : Tid) (h : Here) (m : may_here (Events.Interrupt t) h ≡ true) where
   -- of a thread that rests
-  rests-at : is_calling h.side t.0 ≡ false → (x : Thread) × (IsThread h.node t.0 x) × (rests x.does ≡ true) × (may_be_called_back h.node t.0 ≡ true)
+  pub rests-at : is_calling h.side t.0 ≡ false → (x : Thread) × (IsThread h.node t.0 x) × (rests x.does ≡ true) × (may_be_called_back h.node t.0 ≡ true)
   rests-at e =
     let f = sym (ap (λ b. cond b (not (caller_at h.side t.0).marked && may_be_marked h.node t.0) (may_be_called_back h.node t.0)) e) ∙ m in
     let x = thread_of h.node t.0 in
@@ -194,7 +194,7 @@ module _ (p : ℕ) (t : Tid) (h : Here) (m : may_here (Events.Interrupt t) h ≡
     let y = some-is (at h.node.threads t.0) c.0 in
     (y.0, y.1, ap (λ (z : Thread). rests z.does) (sym (thread-is h.node t.0 y.0 y.1)) ∙ c.1, f)
 
-  marks-at : is_calling h.side t.0 ≡ true → (c : Caller) × (at h.side.lwk.callers t.0 ≡ Some c) × (c.marked ≡ false) × (may_be_marked h.node t.0 ≡ true)
+  pub marks-at : is_calling h.side t.0 ≡ true → (c : Caller) × (at h.side.lwk.callers t.0 ≡ Some c) × (c.marked ≡ false) × (may_be_marked h.node t.0 ≡ true)
   marks-at e =
     let f = sym (ap (λ b. cond b (not (caller_at h.side t.0).marked && may_be_marked h.node t.0) (may_be_called_back h.node t.0)) e) ∙ m in
     let a = both (not (caller_at h.side t.0).marked) (may_be_marked h.node t.0) f in

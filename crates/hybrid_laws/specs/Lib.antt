@@ -113,3 +113,11 @@ pub mod WholeBeginVm
 pub mod WholeAnswerRow
 pub mod WholeIntakeFault
 pub mod WholeIntakeReply
+pub mod EffectCounts
+pub mod WholeEffect
+pub mod WholeIntakeAck
+pub mod WholeInterrupt
+pub mod TrapGoes
+pub mod TrapSteps
+pub mod WholeTrap
+pub mod LwkHolds

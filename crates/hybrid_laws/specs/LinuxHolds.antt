@@ -52,7 +52,7 @@ is_of_linux (Events.AckClear q) = true
 -- ---- no frame is handed out
 
 -- the tables stay where one process is put back with the table that it had, and no process is made
-tables-stay : (pair : Pair) (c : Coherent pair) (p : ℕ) (h : Here) → h.side.lwk.table ≡ (side_of pair p).lwk.table → h.born ≡ None → (x i : ℕ) → table_of (put_here pair p h) x i ≡ table_of pair x i
+pub tables-stay : (pair : Pair) (c : Coherent pair) (p : ℕ) (h : Here) → h.side.lwk.table ≡ (side_of pair p).lwk.table → h.born ≡ None → (x i : ℕ) → table_of (put_here pair p h) x i ≡ table_of pair x i
 tables-stay pair c p h e none x i = ap (λ (o : Option (ℕ × Side)). at (unwrap_or (at (with_born (put pair.sides p h.side) o) x) (new_side 0)).lwk.table i) none
     ∙ ap (λ (o : Option Side). at (unwrap_or o (new_side 0)).lwk.table i) (at-put pair.sides p h.side x) ∙ go (x == p) refl
   where
@@ -60,7 +60,7 @@ tables-stay pair c p h e none x i = ap (λ (o : Option (ℕ × Side)). at (unwra
     go false f = refl
     go true f = let y : p ≡ x = grind (arith, nat_tests, f) in ap (λ (m : Map Row). at m i) e ∙ ap (λ (j : ℕ). table_of pair j i) y
 
-none-handed : (pair : Pair) (e : Event) → ((x i : ℕ) → table_of (after pair e) x i ≡ table_of pair x i) → HandsOutFresh pair e
+pub none-handed : (pair : Pair) (e : Event) → ((x i : ℕ) → table_of (after pair e) x i ≡ table_of pair x i) → HandsOutFresh pair e
 none-handed pair e same x i f h = absurd (h.new h.row (sym (same x i) ∙ h.there) h.frame)
 
 fetched-table : (r : ℕ) (xs : List Msg) (h : Here) → ((fetch_from r xs h).side.lwk.table ≡ h.side.lwk.table) × ((fetch_from r xs h).born ≡ h.born)

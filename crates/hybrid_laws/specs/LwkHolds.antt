@@ -1,0 +1,122 @@
+-- Events of the lightweight kernel that leave every table as it is, whole: coherence, simulation, no frame handed out.
+use Rattle.hybrid_model.specs.declared.events.Event.TheVariants as Events
+use Rattle.hybrid_laws.specs.IntakeEvent.{by-message}
+use Rattle.hybrid_laws.specs.LinuxHolds.{none-handed, tables-stay}
+use Rattle.hybrid_laws.specs.Tests.{both}
+use Rattle.hybrid_laws.specs.WholeBeginVm.{coherent_begin_vm, simulated_pair_begin_vm}
+use Rattle.hybrid_laws.specs.WholeDeliver.{coherent_deliver, simulated_pair_deliver}
+use Rattle.hybrid_laws.specs.WholeIntakeAck.{coherent_intake_ack, simulated_pair_ack}
+use Rattle.hybrid_laws.specs.WholeIntakeFault.{coherent_intake_fault, simulated_pair_fault}
+use Rattle.hybrid_laws.specs.WholeIntakeReply.{coherent_intake_reply, simulated_pair_reply}
+use Rattle.hybrid_laws.specs.WholeInterrupt.{coherent_interrupt, simulated_pair_interrupt}
+use Rattle.hybrid_laws.specs.WholeRun.{coherent_run}
+use Rattle.hybrid_laws.specs.WholeRunSteps.{simulated_pair_run}
+use Rattle.hybrid_laws.specs.WholeScript.{coherent_script, simulated_pair_script}
+use Rattle.hybrid_laws.specs.WholeSteps.{SimulatedPair}
+use Rattle.hybrid_laws.specs.WholeWait.{coherent_wait, simulated_pair_wait}
+use Rattle.hybrid_model.specs.Claims.{HandsOutFresh, Holds}
+use Rattle.hybrid_model.specs.Events.{after, after_here, may, may_here, process_of_event}
+use Rattle.hybrid_model.specs.Globals.{Coherent}
+use Rattle.hybrid_model.specs.Lwk.{after_deliver, begin_round, begin_vm_of, interrupt_as, is_calling, post_interrupt, run}
+use Rattle.hybrid_model.specs.Pairs.{Here, Pair, here, side_of}
+use Rattle.hybrid_model.specs.declared.events.Event.{Event}
+use Rattle.ikc_ring.specs.declared.Msg.{Msg}
+use Rattle.kernel_model.specs.Nodes.{change_in, is_there, thread_of}
+use Rattle.kernel_model.specs.declared.Change.{Change}
+use Rattle.mck_word.specs.declared.Pid.{Pid}
+use Rattle.mck_word.specs.declared.Tid.{Tid}
+use Rattle.std.proofs.Common.{ap, arith, refl}
+use Rattle.std.proofs.lemmas.Bool.Decides.{nat_tests}
+use Rattle.std.specs.Prelude.{Bool, List, None, Option, Some, [], false, length, true, ℕ, ◌≡◌}
+
+-- Run, Deliver, BeginVm, Interrupt, Wait and Script
+abbrev pub is_quiet_lwk : Event → Bool
+is_quiet_lwk (Events.Run core t n) = true
+is_quiet_lwk (Events.Trap t) = false
+is_quiet_lwk (Events.Deliver t) = true
+is_quiet_lwk (Events.Intake q) = false
+is_quiet_lwk (Events.Answer q w) = false
+is_quiet_lwk (Events.BeginVm t) = true
+is_quiet_lwk (Events.Interrupt t) = true
+is_quiet_lwk (Events.Wait t) = true
+is_quiet_lwk (Events.Reap q) = false
+is_quiet_lwk (Events.Script i) = true
+is_quiet_lwk (Events.Fetch q r) = false
+is_quiet_lwk (Events.Assign q w) = false
+is_quiet_lwk (Events.Miss q w) = false
+is_quiet_lwk (Events.Pin q w) = false
+is_quiet_lwk (Events.Copy q w) = false
+is_quiet_lwk (Events.Unpin q w) = false
+is_quiet_lwk (Events.Act q w) = false
+is_quiet_lwk (Events.Park q w) = false
+is_quiet_lwk (Events.Unpark q n) = false
+is_quiet_lwk (Events.Finish q w) = false
+is_quiet_lwk (Events.AckClear q) = false
+
+begun-table : (p t : ℕ) (o : Option Change) (h : Here) → ((begin_vm_of p t o h).side.lwk.table ≡ h.side.lwk.table) × ((begin_vm_of p t o h).born ≡ h.born)
+unfolding begin_round
+begun-table p t None h = (refl, refl)
+begun-table p t (Some c) h = (refl, refl)
+
+interrupted-table : (b : Bool) (t : ℕ) (h : Here) → ((interrupt_as b t h).side.lwk.table ≡ h.side.lwk.table) × ((interrupt_as b t h).born ≡ h.born)
+unfolding post_interrupt
+interrupted-table true t h = (refl, refl)
+interrupted-table false t h = (refl, refl)
+
+module _ (pair : Pair) (c : Coherent pair) where
+  handed : (e : Event) → let p = process_of_event pair.node e in let y = after_here e p (here pair p) in (y.side.lwk.table ≡ (side_of pair p).lwk.table) → (y.born ≡ None) → HandsOutFresh pair e
+  handed e a b = let p = process_of_event pair.node e in none-handed pair e (tables-stay pair c p (after_here e p (here pair p)) a b)
+
+  run-handed : (core n : ℕ) (t : Tid) → HandsOutFresh pair (Events.Run core t n)
+  unfolding run
+  run-handed core n t = handed (Events.Run core t n) refl refl
+
+  deliver-handed : (t : Tid) → HandsOutFresh pair (Events.Deliver t)
+  unfolding after_deliver
+  deliver-handed t = handed (Events.Deliver t) refl refl
+
+  pub holds_quiet_lwk : (e : Event) → is_quiet_lwk e ≡ true → may pair e ≡ true → Holds pair e
+  holds_quiet_lwk (Events.Run core t n) l m = record { coherent = coherent_run pair c core n t m; simulated = simulated_pair_run pair c core n t m; copies = tt; handed_out = run-handed core n t }
+  holds_quiet_lwk (Events.Deliver t) l m = record { coherent = coherent_deliver pair c t m; simulated = simulated_pair_deliver pair c t m; copies = tt; handed_out = deliver-handed t }
+  holds_quiet_lwk (Events.BeginVm t) l m =
+    let b = begun-table (thread_of pair.node t.0).process t.0 (change_in (thread_of pair.node t.0).does) (here pair (thread_of pair.node t.0).process) in
+    record { coherent = coherent_begin_vm pair c t m; simulated = simulated_pair_begin_vm pair c t m; copies = tt; handed_out = handed (Events.BeginVm t) b.0 b.1 }
+  holds_quiet_lwk (Events.Interrupt t) l m =
+    let b = interrupted-table (is_calling (side_of pair (thread_of pair.node t.0).process) t.0) t.0 (here pair (thread_of pair.node t.0).process) in
+    record { coherent = coherent_interrupt pair c t m; simulated = simulated_pair_interrupt pair c t m; copies = tt; handed_out = handed (Events.Interrupt t) b.0 b.1 }
+  holds_quiet_lwk (Events.Wait t) l m = record { coherent = coherent_wait pair c t m; simulated = simulated_pair_wait pair c t m; copies = tt; handed_out = handed (Events.Wait t) refl refl }
+  holds_quiet_lwk (Events.Script i) l m = record { coherent = coherent_script pair c i m; simulated = simulated_pair_script pair c i m; copies = tt; handed_out = handed (Events.Script i) refl refl }
+  holds_quiet_lwk (Events.Trap t) l m = absurd (grind (arith, l))
+  holds_quiet_lwk (Events.Intake q) l m = absurd (grind (arith, l))
+  holds_quiet_lwk (Events.Answer q w) l m = absurd (grind (arith, l))
+  holds_quiet_lwk (Events.Reap q) l m = absurd (grind (arith, l))
+  holds_quiet_lwk (Events.Fetch q r) l m = absurd (grind (arith, l))
+  holds_quiet_lwk (Events.Assign q w) l m = absurd (grind (arith, l))
+  holds_quiet_lwk (Events.Miss q w) l m = absurd (grind (arith, l))
+  holds_quiet_lwk (Events.Pin q w) l m = absurd (grind (arith, l))
+  holds_quiet_lwk (Events.Copy q w) l m = absurd (grind (arith, l))
+  holds_quiet_lwk (Events.Unpin q w) l m = absurd (grind (arith, l))
+  holds_quiet_lwk (Events.Act q w) l m = absurd (grind (arith, l))
+  holds_quiet_lwk (Events.Park q w) l m = absurd (grind (arith, l))
+  holds_quiet_lwk (Events.Unpark q n) l m = absurd (grind (arith, l))
+  holds_quiet_lwk (Events.Finish q w) l m = absurd (grind (arith, l))
+  holds_quiet_lwk (Events.AckClear q) l m = absurd (grind (arith, l))
+
+  -- ---- Intake, whatever message is taken
+  module _ (q : Pid) (m : may pair (Events.Intake q) ≡ true) where
+    there : is_there pair.node q.0 ≡ true
+    there = (both (is_there pair.node q.0) (may_here (Events.Intake q) (here pair q.0)) m).0
+
+    allowed : may_here (Events.Intake q) (here pair q.0) ≡ true
+    allowed = (both (is_there pair.node q.0) (may_here (Events.Intake q) (here pair q.0)) m).1
+
+    not-empty : (side_of pair q.0).to_lwk ≡ [] → ⊥
+    not-empty e = let n = ap (λ (ms : List Msg). length ms) e in grind (arith, nat_tests, allowed, n)
+
+    pub coherent_intake : Coherent (after pair (Events.Intake q))
+    coherent_intake = by-message (side_of pair q.0).to_lwk (Coherent (after pair (Events.Intake q))) (λ e. absurd (not-empty e))
+      (λ n code rest e. coherent_intake_reply pair c q there n code rest e) (λ rest e. coherent_intake_ack pair c q there rest e) (λ w page a rest e. coherent_intake_fault pair c q there w page a rest e) (c.whole q.0).directions.to_lwk
+
+    pub simulated_pair_intake : SimulatedPair pair (Events.Intake q)
+    simulated_pair_intake = by-message (side_of pair q.0).to_lwk (SimulatedPair pair (Events.Intake q)) (λ e. absurd (not-empty e))
+      (λ n code rest e. simulated_pair_reply pair c q there n code rest e) (λ rest e. simulated_pair_ack pair c q there rest e) (λ w page a rest e. simulated_pair_fault pair c q there w page a rest e) (c.whole q.0).directions.to_lwk
