@@ -113,3 +113,6 @@ pub mod WholeBeginVm
 pub mod WholeAnswerRow
 pub mod WholeIntakeFault
 pub mod WholeIntakeReply
+pub mod Lasting
+pub mod Still
+pub mod NoStall
