@@ -121,3 +121,6 @@ pub mod TrapGoes
 pub mod TrapSteps
 pub mod WholeTrap
 pub mod LwkHolds
+pub mod Lasting
+pub mod Still
+pub mod NoStall
