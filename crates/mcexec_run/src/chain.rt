@@ -11,7 +11,9 @@ ghost use Rattle.std.specs.Prelude.{◌≡◌, ◌≤◌, ◌<◌, ◌+◌, ◌^
 ghost use Rattle.std.specs.Option.{option_copied};
 
 use elf_load::{ElfError, Image, load};
-use job_text::{FileLine, GuestLine, InputLine, Job, JobError, Source, SourceKind, read_job, sources};
+use job_text::{
+    FileLine, GuestLine, InputLine, Job, JobError, Source, SourceKind, read_job, sources,
+};
 use mck_report::Status;
 use mck_word::{Bytes, Items, NoMemory};
 use outside::{Fetch, Host};
@@ -86,12 +88,7 @@ fn fetch_image<H: Host>(
 
 // The bytes of a file or an input.
 #[tactic(auto, unfolding(crate::specs::Chain::file_bytes))]
-fn fetch_file<H: Host>(
-    alloc: Global,
-    host: &mut H,
-    line: u64,
-    name: &[u8],
-) -> Result<Bytes, Status>
+fn fetch_file<H: Host>(alloc: Global, host: &mut H, line: u64, name: &[u8]) -> Result<Bytes, Status>
     requires { IsUtf8 name.now }
     ensures goes_on { HostGoesOn H.holds H.faults host.old host.new }
     ensures refusal { IfErr result IsRefusal }

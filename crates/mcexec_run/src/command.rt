@@ -120,7 +120,11 @@ pub fn read_command(words: &[String]) -> Option<Command>
     if first.as_str() == "walk" {
         walk_words(rest)
     } else if first.as_str() == "check" {
-        if rest.is_empty() { Some(Command::Check) } else { None }
+        if rest.is_empty() {
+            Some(Command::Check)
+        } else {
+            None
+        }
     } else if first.as_str() == "replay" {
         two_names(Command::Replay, rest)
     } else if first.as_str() == "audit" {

@@ -13,12 +13,12 @@ Below-none page there = absurd (let e = ap is_some (at-none {V = Frame × Rights
 
 pub Below-put : (m : PageRows) (k : ℕ) (w : Frame × Rights) → k < 2 ^ 27 → IsBelow m → IsBelow (put m k w)
 Below-put m k w low h page there = elim (cases_eq page k) [
-    | inl e ↦ omega arith
-    | inr o ↦ h page (subst (λ r. IsTrue (is_some r)) (at-put m k w page ∙ ap (λ b. cond b (Some w) (at m page)) (ne_eqb page k o)) there)
-  ]
+  | inl e ↦ omega arith
+  | inr o ↦ h page (subst (λ r. IsTrue (is_some r)) (at-put m k w page ∙ ap (λ b. cond b (Some w) (at m page)) (ne_eqb page k o)) there)
+]
 
 pub Below-cut : (m : PageRows) (k : ℕ) → IsBelow m → IsBelow (cut m k)
 Below-cut m k h page there = elim (cases_eq page k) [
-    | inl e ↦ absurd (let same = at-cut m k page ∙ ap (λ b. cond b None (at m page)) (eq-eqb page k e) in let t = ap is_some same in cc)
-    | inr o ↦ h page (subst (λ r. IsTrue (is_some r)) (at-cut m k page ∙ ap (λ b. cond b None (at m page)) (ne_eqb page k o)) there)
-  ]
+  | inl e ↦ absurd (let same = at-cut m k page ∙ ap (λ b. cond b None (at m page)) (eq-eqb page k e) in let t = ap is_some same in cc)
+  | inr o ↦ h page (subst (λ r. IsTrue (is_some r)) (at-cut m k page ∙ ap (λ b. cond b None (at m page)) (ne_eqb page k o)) there)
+]

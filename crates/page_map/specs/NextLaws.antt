@@ -45,9 +45,9 @@ module _ {V : Type 0} where
   none-in : (es : List (ℕ × V)) (from : ℕ) → first (λ k. leb from k) (map_list (λ e. e.0) es) ≡ None → (j : ℕ) → from ≤ j → find nat_cmp j es ≡ None
   none-in [] from e j l = refl
   none-in (x ∷ es) from e j l = elim (cases_lt x.0 from) [
-      | inl low ↦ find-other j x es (omega arith) ∙ none-in es from (rw (lt-leb from x.0 low) at e) j l
-      | inr high ↦ absurd (let bad = rw (le-leb from x.0 high) at e in cc)
-    ]
+    | inl low ↦ find-other j x es (omega arith) ∙ none-in es from (rw (lt-leb from x.0 low) at e) j l
+    | inr high ↦ absurd (let bad = rw (le-leb from x.0 high) at e in cc)
+  ]
 
   record Found (es : List (ℕ × V)) (from k : ℕ) : Type 0 where
     pub low : from ≤ k
@@ -57,19 +57,21 @@ module _ {V : Type 0} where
   found-in : (es : List (ℕ × V)) (from k : ℕ) → T (is_sorted nat_cmp es) → first (λ k. leb from k) (map_list (λ e. e.0) es) ≡ Some k → Found es from k
   found-in [] from k s e = absurd (cc)
   found-in (x ∷ es) from k s e = elim (cases_lt x.0 from) [
-      | inl low ↦
-          let rest = found-in es from k (tail-of x es s) (rw (lt-leb from x.0 low) at e) in
-          record {
-            low = rest.low;
-            there = ap is_some (find-other k x es (omega (arith, rest.low))) ∙ rest.there;
-            least = λ j a b. find-other j x es (omega arith) ∙ rest.least j a b }
-      | inr high ↦
-          let same : x.0 ≡ k = (let here = rw (le-leb from x.0 high) at e in cc) in
-          record {
-            low = omega arith;
-            there = ap (λ n. is_some (find nat_cmp n (x ∷ es))) (sym same) ∙ ap is_some (find-here x es);
-            least = λ j a b. rw (lt-ltb j x.0 (omega arith)) (find-below x.0 j es (omega arith) (head-of x es s)) }
-    ]
+    | inl low ↦
+        let rest = found-in es from k (tail-of x es s) (rw (lt-leb from x.0 low) at e) in
+        record {
+          low = rest.low;
+          there = ap is_some (find-other k x es (omega (arith, rest.low))) ∙ rest.there;
+          least = λ j a b. find-other j x es (omega arith) ∙ rest.least j a b;
+        }
+    | inr high ↦
+        let same : x.0 ≡ k = (let here = rw (le-leb from x.0 high) at e in cc) in
+        record {
+          low = omega arith;
+          there = ap (λ n. is_some (find nat_cmp n (x ∷ es))) (sym same) ∙ ap is_some (find-here x es);
+          least = λ j a b. rw (lt-ltb j x.0 (omega arith)) (find-below x.0 j es (omega arith) (head-of x es s));
+        }
+  ]
 
   -- the key is present and the least from there on
   pub record IsNext (m : Map V) (from k : ℕ) : Type 0 where
@@ -83,7 +85,8 @@ module _ {V : Type 0} where
       record {
         low = found.low;
         there = ap is_some (finmap.get-entries m k) ∙ found.there;
-        least = λ j a b. finmap.get-entries m j ∙ found.least j a b }
+        least = λ j a b. finmap.get-entries m j ∙ found.least j a b;
+      }
 
   pub next-none : (m : Map V) (from : ℕ) → key_from m from ≡ None → (j : ℕ) → from ≤ j → at m j ≡ None
   next-none m from e j l = finmap.get-entries m j ∙ none-in (finmap.entries m) from e j l
