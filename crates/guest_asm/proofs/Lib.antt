@@ -7,5 +7,6 @@ pub mod LabelMaps
 pub mod ListedTexts
 pub mod NameFacts
 pub mod Pieces
+pub mod Prepared
 pub mod Texts
 pub mod WordLists

@@ -2,6 +2,7 @@
 ghost use Rattle.std.specs.Prelude.{◌≡◌, ◌≤◌, ◌<◌, ◌++◌, ◌∷◌, [], OnOk, IfOk, map, decimal, length};
 ghost use Rattle.mck_word.specs.Lists.{count_from};
 ghost use Rattle.guest_asm.specs.Growing.{grow_words, grow_guest, grow_image, grow_job_of, grow_images_of};
+ghost use Rattle.job_model.specs.Prepared.{IsPrepared};
 ghost use Rattle.guest_asm.specs.Images.{image_with, small_image_of};
 
 use crate::images::small_image;
@@ -133,7 +134,9 @@ pub fn grow_job(alloc: Global, n: u32) -> Result<(Job, Images), NoMemory>
     requires most { n ≤ 16 }
     ensures job { IfOk result (λ p. p.0 ≡ grow_job_of n) }
     ensures images { IfOk result (λ p. p.1 ≡ grow_images_of n) }
+    ensures prepared { IfOk result (λ p. IsPrepared p.0 p.1) }
 {
+    let guests = grow_guests(alloc, n)?;
     let images = grow_images(alloc, n)?;
     let job = Job {
         frames: FRAMES_EACH * n,
@@ -141,7 +144,7 @@ pub fn grow_job(alloc: Global, n: u32) -> Result<(Job, Images), NoMemory>
         workers: 2,
         rings: 1,
         limit: 1_000_000,
-        guests: grow_guests(alloc, n)?,
+        guests,
         signals: Items::new(alloc),
         files: Items::new(alloc),
         inputs: Items::new(alloc),

@@ -1,0 +1,48 @@
+#!/usr/bin/env python3
+"""Measures how long assembler texts and jobs take to read, at a tenth of a size and at the whole of it.
+
+Builds crates/text_sizes and prints the time a line, and what the whole takes a line over the tenth: near 1 where reading is linear.
+"""
+import os
+import subprocess
+import sys
+import time
+
+TOP = os.path.dirname(os.path.dirname(os.path.abspath(__file__)))
+CRATE = os.path.join(TOP, "crates", "text_sizes")
+
+
+def build():
+    """Proves and builds the program; its file is out/text_sizes."""
+    told = subprocess.run(["rt", "run", "--", "assemble", "100000", "1"], cwd=CRATE, text=True, stdout=subprocess.PIPE, stderr=subprocess.STDOUT)
+    program = os.path.join(CRATE, "out", "text_sizes")
+    if not os.path.exists(program):
+        sys.exit(told.stdout + "the program was not built")
+    return program
+
+
+def seconds(program, kind, size, rounds):
+    """The seconds of a run, and the bytes of its text."""
+    begin = time.perf_counter()
+    told = subprocess.run([program, kind, str(size), str(rounds)], text=True, check=True, stdout=subprocess.PIPE).stdout
+    return time.perf_counter() - begin, int(told.split()[1])
+
+
+def per_round(program, kind, size, rounds):
+    """The least seconds of a round and the bytes of the text, without what the program takes to start and to make the text."""
+    best = min(seconds(program, kind, size, rounds)[0] - seconds(program, kind, size, 0)[0] for _ in range(5))
+    return best / rounds, seconds(program, kind, size, 0)[1]
+
+
+def main():
+    program = build()
+    print("%-10s %9s %12s %14s %7s" % ("text", "lines", "bytes", "ns a byte", "whole/tenth"))
+    for kind, tenth, whole, rounds in (("assemble", 10000, 100000, 10), ("listing", 10000, 100000, 10), ("job", 1, 10, 20)):
+        small, small_bytes = per_round(program, kind, tenth, rounds * 10)
+        large, large_bytes = per_round(program, kind, whole, rounds)
+        for size, took, count in ((tenth, small, small_bytes), (whole, large, large_bytes)):
+            print("%-10s %9d %12d %14.2f" % (kind, size, count, took / count * 1e9))
+        print("%-10s %37s %7.2f" % (kind, "", (large / large_bytes) / (small / small_bytes)))
+
+
+main()

@@ -1,0 +1,3 @@
+addi a0,x0,7
+addi a7,x0,93
+ecall
