@@ -71,8 +71,8 @@ one-filled all rs r before rest after f e d h = subst (λ rs. IsFilled rs (recor
       entries = omega (arith, h.entries);
       bytes = omega (arith, h.bytes, length-append r (joined rs));
       fills = ap (λ (xs : List ℕ). r ++ xs) (h.fills ∙ ap (λ (xs : List ℕ). joined rs ++ drop (length (joined rs)) xs) d)
-        ∙ ap (λ (xs : List ℕ). r ++ (joined rs ++ xs)) (drop-drop (length (joined rs)) (length r) before ∙ ap (λ k. drop k before) (sym (length-append r (joined rs))))
-        ∙ sym (append_assoc r (joined rs) (drop (length (r ++ joined rs)) before))
+          ∙ ap (λ (xs : List ℕ). r ++ (joined rs ++ xs)) (drop-drop (length (joined rs)) (length r) before ∙ ap (λ k. drop k before) (sym (length-append r (joined rs))))
+          ∙ sym (append_assoc r (joined rs) (drop (length (r ++ joined rs)) before));
     })
 
 pub has-entry : (xs : List (List ℕ)) (k : ℕ) → is_some (slice_get xs k) ≡ nat_lt 0 (length (drop k xs))
@@ -90,7 +90,7 @@ listed files d fit = record { answer = pos (length (joined fit)); out = joined f
 
 pub list-is : (files : Files) (d most node len : ℕ) → (node_of files node).directory ≡ true → is_unlinked node (node_of files node).name ≡ false → len ≡ min most 65_536
     → let place = (description_of files d).offset in let fit = fitting files node place len in
-      list_node files d most node ≡ cond (nat_lt 0 (length (drop place (all_records files node))) && length fit == 0) (fails EINVAL files) (listed files d fit)
+    list_node files d most node ≡ cond (nat_lt 0 (length (drop place (all_records files node))) && length fit == 0) (fails EINVAL files) (listed files d fit)
 unfolding fitting
 list-is files d most node len dir name is =
     let left = drop (description_of files d).offset (all_records files node) in
@@ -114,8 +114,8 @@ list-stuck files d most node len f before after value dir name is h stuck v =
     let test = nat_lt 0 (length (drop (description_of files d).offset (all_records files node))) in
     let none : length fit ≡ 0 = sym h.entries ∙ grind (arith, nat_tests, both test (f.entries == 0) stuck) in
     subst (λ (r : FileResult). Gives r value (len_said value) before after files)
-      (sym (list-is files d most node len dir name is ∙ ap (λ k. cond (test && k == 0) (fails EINVAL files) (listed files d fit)) (sym h.entries) ∙ ap (λ b. cond b (fails EINVAL files) (listed files d fit)) stuck))
-      (record { answers = v; gives = sym (ap len_said v); fills = h.fills ∙ ap (λ (xs : List ℕ). placed xs before) (no_records fit none); leaves = refl })
+    (sym (list-is files d most node len dir name is ∙ ap (λ k. cond (test && k == 0) (fails EINVAL files) (listed files d fit)) (sym h.entries) ∙ ap (λ b. cond b (fails EINVAL files) (listed files d fit)) stuck))
+    (record { answers = v; gives = sym (ap len_said v); fills = h.fills ∙ ap (λ (xs : List ℕ). placed xs before) (no_records fit none); leaves = refl })
 
 pub list-filled : (files left : Files) (d most node len : ℕ) (f : Filled) (before after : List ℕ) → (node_of files node).directory ≡ true → is_unlinked node (node_of files node).name ≡ false → len ≡ min most 65_536
     → IsFilled (fitting files node (description_of files d).offset len) f before after
@@ -126,5 +126,5 @@ list-filled files left d most node len f before after dir name is h stuck l =
     let fit = fitting files node (description_of files d).offset len in
     let test = nat_lt 0 (length (drop (description_of files d).offset (all_records files node))) in
     subst (λ (r : FileResult). Gives r (pos f.bytes) f.bytes before after left)
-      (sym (list-is files d most node len dir name is ∙ ap (λ k. cond (test && k == 0) (fails EINVAL files) (listed files d fit)) (sym h.entries) ∙ ap (λ b. cond b (fails EINVAL files) (listed files d fit)) stuck))
-      (record { answers = ap pos h.bytes; gives = sym h.bytes; fills = h.fills; leaves = l ∙ ap (λ k. set_offset d ((description_of files d).offset + k) files) h.entries })
+    (sym (list-is files d most node len dir name is ∙ ap (λ k. cond (test && k == 0) (fails EINVAL files) (listed files d fit)) (sym h.entries) ∙ ap (λ b. cond b (fails EINVAL files) (listed files d fit)) stuck))
+    (record { answers = ap pos h.bytes; gives = sym h.bytes; fills = h.fills; leaves = l ∙ ap (λ k. set_offset d ((description_of files d).offset + k) files) h.entries })

@@ -21,7 +21,7 @@ names-slash b bs e = ap (λ v. filter full (cond v ([] ∷ runs [] bs) (runs (b 
 pub names-front : (t : List ℕ) → names_of t ≡ names_of (drop (first_name_at t) t)
 names-front [] = refl
 names-front (b ∷ bs) = elim (b == slash) as (λ v. (b == slash) ≡ v → names_of (b ∷ bs) ≡ names_of (drop (cond v (suc (first_name_at bs)) 0) (b ∷ bs)))
-  [ true ↦ λ e. names-slash b bs e ∙ names-front bs | false ↦ λ e. refl ] refl
+    [ true ↦ λ e. names-slash b bs e ∙ names-front bs | false ↦ λ e. refl ] refl
 
 abbrev behind : List ℕ → List ℕ
 behind t = drop 1 (drop (run_length t) t)
@@ -33,18 +33,20 @@ with_front run t = cond (full run) (run ∷ names_of (behind t)) (names_of (behi
 runs-first : (run t : List ℕ) → filter full (runs run t) ≡ with_front (run ++ take (run_length t) t) t
 runs-first run [] = ap (λ (r : List ℕ). with_front r []) (sym (append-nil run))
 runs-first run (b ∷ bs) = elim (b == slash) as (λ v. filter full (cond v (run ∷ runs [] bs) (runs (run ++ b ∷ []) bs))
-      ≡ (let t = b ∷ bs in let k = cond v 0 (suc (run_length bs)) in let r = run ++ take k t in cond (full r) (r ∷ names_of (drop 1 (drop k t))) (names_of (drop 1 (drop k t)))))
-  [ true ↦ ap (λ (r : List ℕ). cond (full r) (r ∷ names_of bs) (names_of bs)) (sym (append-nil run))
-  | false ↦ runs-first (run ++ b ∷ []) bs ∙ ap (λ (r : List ℕ). with_front r bs) (append_assoc run (b ∷ []) (take (run_length bs) bs)) ]
+    ≡ (let t = b ∷ bs in let k = cond v 0 (suc (run_length bs)) in let r = run ++ take k t in cond (full r) (r ∷ names_of (drop 1 (drop k t))) (names_of (drop 1 (drop k t))))) [
+      | true ↦ ap (λ (r : List ℕ). cond (full r) (r ∷ names_of bs) (names_of bs)) (sym (append-nil run))
+      | false ↦ runs-first (run ++ b ∷ []) bs ∙ ap (λ (r : List ℕ). with_front r bs) (append_assoc run (b ∷ []) (take (run_length bs) bs))
+    ]
 
 never_empty : (xs : List ℕ) (n : ℕ) → (length xs == 0) ≡ true → length xs ≡ suc n → ⊥
 never_empty xs n e f = grind (arith, nat_tests, e, f)
 
 front-empty : (t : List ℕ) → let r = drop (first_name_at t) t in (length (take (run_length r) r) == 0) ≡ true → r ≡ []
 front-empty [] e = refl
-front-empty (b ∷ bs) e = elim (b == slash) as (λ v. (b == slash) ≡ v → (let r = drop (cond v (suc (first_name_at bs)) 0) (b ∷ bs) in (length (take (run_length r) r) == 0) ≡ true → r ≡ []))
-  [ true ↦ λ s e. front-empty bs e
-  | false ↦ λ s e. absurd (never_empty (b ∷ take (run_length bs) bs) (length (take (run_length bs) bs)) (sym (ap (λ v. length (take (cond v 0 (suc (run_length bs))) (b ∷ bs)) == 0) s) ∙ e) refl) ] refl e
+front-empty (b ∷ bs) e = elim (b == slash) as (λ v. (b == slash) ≡ v → (let r = drop (cond v (suc (first_name_at bs)) 0) (b ∷ bs) in (length (take (run_length r) r) == 0) ≡ true → r ≡ [])) [
+  | true ↦ λ s e. front-empty bs e
+  | false ↦ λ s e. absurd (never_empty (b ∷ take (run_length bs) bs) (length (take (run_length bs) bs)) (sym (ap (λ v. length (take (cond v 0 (suc (run_length bs))) (b ∷ bs)) == 0) s) ∙ e) refl)
+] refl e
 
 pub no_name : (t r name : List ℕ) → r ≡ drop (first_name_at t) t → name ≡ take (run_length r) r → (length name == 0) ≡ true → names_of t ≡ []
 no_name t r name er en e = names-front t ∙ ap names_of (front-empty t (sym (ap (λ (n : List ℕ). length n == 0) (en ∙ ap (λ (r : List ℕ). take (run_length r) r) er)) ∙ e))
@@ -64,7 +66,7 @@ first_name t r name rest er en es f =
 runs-slash : (run a b : List ℕ) → runs run (a ++ slash ∷ b) ≡ runs run a ++ runs [] b
 runs-slash run [] b = refl
 runs-slash run (x ∷ a) b = elim (x == slash) as (λ v. cond v (run ∷ runs [] (a ++ slash ∷ b)) (runs (run ++ x ∷ []) (a ++ slash ∷ b)) ≡ cond v (run ∷ runs [] a) (runs (run ++ x ∷ []) a) ++ runs [] b)
-  [ true ↦ ap (λ (rs : List Name). run ∷ rs) (runs-slash [] a b) | false ↦ runs-slash (run ++ x ∷ []) a b ]
+    [ true ↦ ap (λ (rs : List Name). run ∷ rs) (runs-slash [] a b) | false ↦ runs-slash (run ++ x ∷ []) a b ]
 
 pub names-slash-between : (a b : List ℕ) → names_of (a ++ slash ∷ b) ≡ names_of a ++ names_of b
 names-slash-between a b = ap (filter full) (runs-slash [] a b) ∙ filter-append full (runs [] a) (runs [] b)
@@ -102,10 +104,13 @@ module _ (b : List ℕ) (at : ℕ) (run : run_length (drop at b) ≡ length b - 
     where
       rest-len : length (drop at b) ≡ length b - at
       rest-len = length-drop at b
+
       before_end : 0 < at → at < length b
       before_end p = elim (cases_lt at (length b)) [ inl l ↦ l | inr g ↦ absurd (final (let e : length b - 1 ≡ at - 1 = omega arith in ap (λ i. get_or b i 0) e ∙ cut p)) ]
+
       last-one : at < length b → names_of (drop at b) ≡ drop at b ∷ []
       last-one l = names-one (drop at b) (run ∙ sym rest-len) (omega (arith, rest-len))
+
       by_at : (k : ℕ) → at ≡ k → names_of b ≡ names_of (take at b) ++ drop at b ∷ []
       by_at zero e = subst (λ i. names_of b ≡ names_of (take i b) ++ drop i b ∷ []) (sym e) (subst (λ i. names_of (drop i b) ≡ drop i b ∷ []) e (last-one (omega arith)))
       by_at (suc k) e =

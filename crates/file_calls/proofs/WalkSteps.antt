@@ -22,12 +22,13 @@ steps-name t n m e d = ap without_dots e ∙ ap (λ v. cond (not v) (n ∷ witho
 -- what the name n does at a node, where `over` says that it is the last, and `next` goes on
 abbrev pub taken : Files → ℕ → Name → Bool → (ℕ → Place) → Place
 taken files here n over next =
-  cond (nat_lt 255 (length n)) (NoPlace ENAMETOOLONG)
-  (cond (not (node_of files here).directory) (NoPlace ENOTDIR)
-  (cond (bytes_eq n dot_dot) (next (node_of files here).parent)
-  (elim (child files here n) [
-  | None ↦ cond over (Absent here n) (NoPlace ENOENT)
-  | Some k ↦ next k ])))
+    cond (nat_lt 255 (length n)) (NoPlace ENAMETOOLONG)
+    (cond (not (node_of files here).directory) (NoPlace ENOTDIR)
+    (cond (bytes_eq n dot_dot) (next (node_of files here).parent)
+    (elim (child files here n) [
+      | None ↦ cond over (Absent here n) (NoPlace ENOENT)
+      | Some k ↦ next k
+    ])))
 
 pub walked-none : (files : Files) (here : ℕ) (t : List ℕ) → steps t ≡ [] → walked files here t ≡ Present here
 unfolding walked

@@ -21,7 +21,14 @@ pub fn move_on<S: FileStore>(files: &mut S, d: u32, at: Option<u64>, end: u64)
 }
 
 /// Reads a piece of a file.
-fn get_file<S: FileStore>(files: &mut S, d: u32, at: Option<u64>, moved: u32, node: u64, into: &mut [u8]) -> i64
+fn get_file<S: FileStore>(
+    files: &mut S,
+    d: u32,
+    at: Option<u64>,
+    moved: u32,
+    node: u64,
+    into: &mut [u8],
+) -> i64
     requires { (description_of (S.files files.old) d).target ≡ target.OfNode node }
     ensures { Gives (streams.get_piece (S.files files.old) d at moved (length into.old)) result (len_said result) into.old into.new (S.files files.new) }
 {
@@ -35,7 +42,14 @@ fn get_file<S: FileStore>(files: &mut S, d: u32, at: Option<u64>, moved: u32, no
 }
 
 /// Takes a piece out of a pipe.
-fn get_pipe<S: FileStore>(files: &mut S, d: u32, at: Option<u64>, moved: u32, pipe: u32, into: &mut [u8]) -> i64
+fn get_pipe<S: FileStore>(
+    files: &mut S,
+    d: u32,
+    at: Option<u64>,
+    moved: u32,
+    pipe: u32,
+    into: &mut [u8],
+) -> i64
     requires { (description_of (S.files files.old) d).target ≡ target.ReadEnd pipe }
     ensures { Gives (streams.get_piece (S.files files.old) d at moved (length into.old)) result (len_said result) into.old into.new (S.files files.new) }
 {
@@ -46,7 +60,14 @@ fn get_pipe<S: FileStore>(files: &mut S, d: u32, at: Option<u64>, moved: u32, pi
 }
 
 /// Takes a piece of a console's input.
-fn get_input<S: FileStore>(files: &mut S, d: u32, at: Option<u64>, moved: u32, guest: u32, into: &mut [u8]) -> i64
+fn get_input<S: FileStore>(
+    files: &mut S,
+    d: u32,
+    at: Option<u64>,
+    moved: u32,
+    guest: u32,
+    into: &mut [u8],
+) -> i64
     requires { (description_of (S.files files.old) d).target ≡ target.OfConsole guest }
     ensures { Gives (streams.get_piece (S.files files.old) d at moved (length into.old)) result (len_said result) into.old into.new (S.files files.new) }
 {

@@ -14,10 +14,15 @@ use file_model::Target;
 use mck_word::Pid;
 
 const O_CLOEXEC: u32 = 0x80000;
+
 const MOST_DESCRIPTORS: u32 = 64;
+
 const DIRECTORY_MODE: u32 = 0o40755;
+
 const FILE_MODE: u32 = 0o100644;
+
 const PIPE_MODE: u32 = 0o10600;
+
 const CONSOLE_MODE: u32 = 0o20620;
 
 /// Makes a pipe, and gives out the descriptors of its two ends, the read end first.

@@ -17,6 +17,7 @@ use file_model::Target;
 use mck_word::Pid;
 
 const MOST_DESCRIPTORS: u32 = 64;
+
 pub const MOST_NODES: u64 = 1024;
 
 /// The low two bits of flags: 0 reads, 1 writes, 2 does both.
@@ -52,7 +53,13 @@ fn open_at<S: FileStore>(files: &mut S, pid: Pid, flags: u32, node: u64) -> i64
     requires free { count (descriptors_of (S.files files.old) pid.0) < 64 }
     ensures { done result (S.files files.new) ≡ open_node (S.files files.old) pid.0 flags node }
 {
-    let fd = files.open(pid, Target::OfNode(node), reads(flags), writes(flags), has_flag(flags, 10));
+    let fd = files.open(
+        pid,
+        Target::OfNode(node),
+        reads(flags),
+        writes(flags),
+        has_flag(flags, 10),
+    );
     i64::from(fd)
 }
 
@@ -79,7 +86,14 @@ fn open_present<S: FileStore>(files: &mut S, pid: Pid, flags: u32, text: &[u8], 
 }
 
 /// Makes a file and opens it.
-fn open_absent<S: FileStore>(files: &mut S, pid: Pid, flags: u32, text: &[u8], directory: u64, name: &[u8]) -> i64
+fn open_absent<S: FileStore>(
+    files: &mut S,
+    pid: Pid,
+    flags: u32,
+    text: &[u8],
+    directory: u64,
+    name: &[u8],
+) -> i64
     requires nodes { 1 ≤ (S.room files.old).nodes }
     requires opens { 1 ≤ (S.room files.old).opens }
     requires free { count (descriptors_of (S.files files.old) pid.0) < 64 }

@@ -11,11 +11,20 @@ ghost use Rattle.file_model.specs.declared.operations.Readiness.{Readiness as re
 use crate::errno::fails;
 use crate::get::move_on;
 use crate::store::FileStore;
-use crate::streams::{MOST_CONSOLE_BYTES, MOST_FILE_BYTES, MOST_PIPE_BYTES, write_error, write_offset, write_ready};
+use crate::streams::{
+    MOST_CONSOLE_BYTES, MOST_FILE_BYTES, MOST_PIPE_BYTES, write_error, write_offset, write_ready,
+};
 use file_model::{Readiness, Target};
 
 /// Writes a piece into a file.
-fn put_file<S: FileStore>(files: &mut S, d: u32, at: Option<u64>, moved: u32, node: u64, from: &[u8]) -> i64
+fn put_file<S: FileStore>(
+    files: &mut S,
+    d: u32,
+    at: Option<u64>,
+    moved: u32,
+    node: u64,
+    from: &[u8],
+) -> i64
     requires target { (description_of (S.files files.old) d).target ≡ target.OfNode node }
     requires below { write_offset (S.files files.old) (description_of (S.files files.old) d) at moved < most_file_bytes }
     requires room { HasPutRoom (S.can_write files.old) (S.files files.old) d at moved (length from.now) }
@@ -30,7 +39,14 @@ fn put_file<S: FileStore>(files: &mut S, d: u32, at: Option<u64>, moved: u32, no
 }
 
 /// Adds a piece to a pipe.
-fn put_pipe<S: FileStore>(files: &mut S, d: u32, at: Option<u64>, moved: u32, pipe: u32, from: &[u8]) -> i64
+fn put_pipe<S: FileStore>(
+    files: &mut S,
+    d: u32,
+    at: Option<u64>,
+    moved: u32,
+    pipe: u32,
+    from: &[u8],
+) -> i64
     requires target { (description_of (S.files files.old) d).target ≡ target.WriteEnd pipe }
     requires room { HasPutRoom (S.can_write files.old) (S.files files.old) d at moved (length from.now) }
     ensures { done result (S.files files.new) ≡ put_bytes (S.files files.old) d at moved from.now (target.WriteEnd pipe) }
@@ -42,7 +58,14 @@ fn put_pipe<S: FileStore>(files: &mut S, d: u32, at: Option<u64>, moved: u32, pi
 }
 
 /// Adds a piece to a console's output.
-fn put_output<S: FileStore>(files: &mut S, d: u32, at: Option<u64>, moved: u32, guest: u32, from: &[u8]) -> i64
+fn put_output<S: FileStore>(
+    files: &mut S,
+    d: u32,
+    at: Option<u64>,
+    moved: u32,
+    guest: u32,
+    from: &[u8],
+) -> i64
     requires target { (description_of (S.files files.old) d).target ≡ target.OfConsole guest }
     requires room { HasPutRoom (S.can_write files.old) (S.files files.old) d at moved (length from.now) }
     ensures { done result (S.files files.new) ≡ put_bytes (S.files files.old) d at moved from.now (target.OfConsole guest) }
@@ -54,7 +77,14 @@ fn put_output<S: FileStore>(files: &mut S, d: u32, at: Option<u64>, moved: u32, 
 }
 
 /// Moves a piece of `len` bytes of a writing stream. Where it is ready, `from` has those bytes.
-pub fn put<S: FileStore>(files: &mut S, d: u32, at: Option<u64>, moved: u32, len: u32, from: &[u8]) -> i64
+pub fn put<S: FileStore>(
+    files: &mut S,
+    d: u32,
+    at: Option<u64>,
+    moved: u32,
+    len: u32,
+    from: &[u8],
+) -> i64
     requires whole { streams.write_ready (S.files files.old) d at moved len ≡ readiness.Ready → length from.now ≡ len }
     requires room { HasPutRoom (S.can_write files.old) (S.files files.old) d at moved len }
     ensures { done result (S.files files.new) ≡ streams.put_piece (S.files files.old) d at moved len from.now }

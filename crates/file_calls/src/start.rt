@@ -12,6 +12,7 @@ use file_model::Target;
 use mck_word::Pid;
 
 const ROOT: u64 = 1;
+
 const AT_ROOT: i32 = -100;
 
 /// The description that a descriptor of a call names.
@@ -55,7 +56,13 @@ fn start_of<S: FileStore>(files: &S, pid: Pid, dirfd: i32, text: &[u8]) -> Resul
 
 /// Where the names of `front`, which a path begins with, lead.
 #[tactic(auto, unfolding(crate::specs::Walks::walked, crate::specs::Walks::steps))]
-pub fn find_front<'a, S: FileStore>(files: &S, pid: Pid, dirfd: i32, text: &[u8], front: &'a [u8]) -> Found<'a>
+pub fn find_front<'a, S: FileStore>(
+    files: &S,
+    pid: Pid,
+    dirfd: i32,
+    text: &[u8],
+    front: &'a [u8],
+) -> Found<'a>
     ensures makes { CanBeMade (S.files files.now) result }
     ensures place { place result ≡ place_of_names (S.files files.now) pid.0 dirfd text.now (names_of front.now) }
 {

@@ -24,14 +24,30 @@ pub fn ready<S: FileStore>(files: &S, op: &FileOp) -> Readiness
     ensures { result ≡ steps.ready (S.files files.now) op.now }
 {
     match *op {
-        FileOp::Get { desc, at, moved, .. } => read_ready(files, desc, at, moved),
-        FileOp::Put { desc, at, moved, len } => write_ready(files, desc, at, moved, len),
+        FileOp::Get {
+            desc,
+            at,
+            moved,
+            ..
+        } => read_ready(files, desc, at, moved),
+        FileOp::Put {
+            desc,
+            at,
+            moved,
+            len,
+        } => write_ready(files, desc, at, moved, len),
         _ => Readiness::FileStep,
     }
 }
 
 /// The step of a reading stream's piece.
-fn get_step<S: FileStore>(files: &mut S, desc: u32, at: Option<u64>, moved: u32, into: &mut [u8]) -> FileAns
+fn get_step<S: FileStore>(
+    files: &mut S,
+    desc: u32,
+    at: Option<u64>,
+    moved: u32,
+    into: &mut [u8],
+) -> FileAns
     ensures { IsStep (get_piece (S.files files.old) desc at moved (length into.old)) (streams.read_ready (S.files files.old) desc at moved) result (given_len (operation.Get desc at moved (length into.old)) result) into.old into.new (S.files files.new) }
 {
     let kind = read_ready(files, desc, at, moved);
@@ -40,7 +56,14 @@ fn get_step<S: FileStore>(files: &mut S, desc: u32, at: Option<u64>, moved: u32,
 }
 
 /// The step of a writing stream's piece.
-fn put_step<S: FileStore>(files: &mut S, desc: u32, at: Option<u64>, moved: u32, len: u32, from: &[u8]) -> FileAns
+fn put_step<S: FileStore>(
+    files: &mut S,
+    desc: u32,
+    at: Option<u64>,
+    moved: u32,
+    len: u32,
+    from: &[u8],
+) -> FileAns
     requires whole { streams.write_ready (S.files files.old) desc at moved len ≡ readiness.Ready → length from.now ≡ len }
     requires room { HasPutRoom (S.can_write files.old) (S.files files.old) desc at moved len }
     ensures { IsStep (put_piece (S.files files.old) desc at moved len from.now) (streams.write_ready (S.files files.old) desc at moved len) result 0 from.now from.now (S.files files.new) }
@@ -81,8 +104,18 @@ pub fn file_step<S: FileStore>(files: &mut S, pid: Pid, op: &FileOp, io: &mut [u
         FileOp::Getdents { fd, most } => getdents(files, pid, fd, most, io),
         FileOp::Read { fd, at, count } => read(files, pid, fd, at, count),
         FileOp::Write { fd, at, count } => write(files, pid, fd, at, count),
-        FileOp::Get { desc, at, moved, .. } => return get_step(files, desc, at, moved, io),
-        FileOp::Put { desc, at, moved, len } => return put_step(files, desc, at, moved, len, io),
+        FileOp::Get {
+            desc,
+            at,
+            moved,
+            ..
+        } => return get_step(files, desc, at, moved, io),
+        FileOp::Put {
+            desc,
+            at,
+            moved,
+            len,
+        } => return put_step(files, desc, at, moved, len, io),
         FileOp::Leave(desc) => {
             files.leave(desc);
             0

@@ -109,7 +109,14 @@ pub trait FileStore: Sized {
         ensures { result ≡ is_open (files self.now) target };
 
     /// Opens a description of the target, and answers its descriptor.
-    fn open(&mut self, pid: Pid, target: Target, readable: bool, writable: bool, append: bool) -> u32
+    fn open(
+        &mut self,
+        pid: Pid,
+        target: Target,
+        readable: bool,
+        writable: bool,
+        append: bool,
+    ) -> u32
         requires room { 1 ≤ (room self.old).opens }
         requires free { count (descriptors_of (files self.old) pid.0) < 64 }
         ensures files { files self.new ≡ files_of.opened pid.0 target readable writable append (files self.old) }

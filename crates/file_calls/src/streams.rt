@@ -9,8 +9,11 @@ use crate::store::FileStore;
 use file_model::{Description, Readiness, Target};
 
 pub const MOST_FILE_BYTES: u64 = 1_048_576;
+
 const MOST_BYTES_OF_ALL_FILES: u64 = 67_108_864;
+
 pub const MOST_CONSOLE_BYTES: u64 = 1_048_576;
+
 pub const MOST_PIPE_BYTES: u64 = 65_536;
 
 /// Where the next piece is read in a file, as far as a u64 tells it.
@@ -26,7 +29,12 @@ pub fn read_offset(description: Description, at: Option<u64>, moved: u32) -> u64
 }
 
 /// Where the next piece is written in a file, as far as a u64 tells it.
-pub fn write_offset<S: FileStore>(files: &S, description: Description, at: Option<u64>, moved: u32) -> u64
+pub fn write_offset<S: FileStore>(
+    files: &S,
+    description: Description,
+    at: Option<u64>,
+    moved: u32,
+) -> u64
     requires { description.offset < 2 ^ 63 }
     ensures is { result ≡ min (write_offset (S.files files.now) description at moved) (2 ^ 64 - 1) }
     ensures own { IsNone at → result < 2 ^ 63 }
@@ -56,7 +64,9 @@ pub fn read_ready<S: FileStore>(files: &S, d: u32, at: Option<u64>, moved: u32) 
 {
     let description = files.description(d);
     match description.target {
-        Target::OfNode(node) => ready_if(read_offset(description, at, moved) < files.file_len(node)),
+        Target::OfNode(node) => ready_if(
+            read_offset(description, at, moved) < files.file_len(node),
+        ),
         Target::ReadEnd(pipe) => {
             if files.pipe_len(pipe) > 0 {
                 return Readiness::Ready;
@@ -71,7 +81,6 @@ pub fn read_ready<S: FileStore>(files: &S, d: u32, at: Option<u64>, moved: u32) 
     }
 }
 
-
 /// Whether the bytes of all files stay within their limit where a file gets a piece at an offset.
 fn fits<S: FileStore>(files: &S, node: u64, offset: u64, len: u32) -> bool
     requires { offset < most_file_bytes }
@@ -84,7 +93,13 @@ fn fits<S: FileStore>(files: &S, node: u64, offset: u64, len: u32) -> bool
 }
 
 /// How a piece of a writing stream stands.
-pub fn write_ready<S: FileStore>(files: &S, d: u32, at: Option<u64>, moved: u32, len: u32) -> Readiness
+pub fn write_ready<S: FileStore>(
+    files: &S,
+    d: u32,
+    at: Option<u64>,
+    moved: u32,
+    len: u32,
+) -> Readiness
     ensures { result ≡ write_ready (S.files files.now) d at moved len }
 {
     let description = files.description(d);
@@ -108,12 +123,18 @@ pub fn write_ready<S: FileStore>(files: &S, d: u32, at: Option<u64>, moved: u32,
 }
 
 /// The error of a piece that can't move and doesn't wait.
-pub fn write_error<S: FileStore>(files: &S, description: Description, at: Option<u64>, moved: u32) -> u32
+pub fn write_error<S: FileStore>(
+    files: &S,
+    description: Description,
+    at: Option<u64>,
+    moved: u32,
+) -> u32
     requires { description.offset < 2 ^ 63 }
     ensures { result ≡ write_error (S.files files.now) description at moved description.target }
 {
     match description.target {
-        Target::OfNode(_) if write_offset(files, description, at, moved) < MOST_FILE_BYTES => ENOSPC,
+        Target::OfNode(_) if write_offset(files, description, at, moved) < MOST_FILE_BYTES =>
+            ENOSPC,
         Target::OfNode(_) => EFBIG,
         Target::ReadEnd(_) | Target::WriteEnd(_) => EPIPE,
         Target::OfConsole(_) => ENOSPC,

@@ -42,7 +42,11 @@ fn special_error(text: &[u8], removes_directory: bool) -> Option<u32>
         Some((_, last)) if is_dot_dot(last) => ENOTEMPTY,
         Some(_) => return None,
     };
-    Some(if removes_directory { of_directory } else { EISDIR })
+    Some(if removes_directory {
+        of_directory
+    } else {
+        EISDIR
+    })
 }
 
 /// Takes the name of a node away.

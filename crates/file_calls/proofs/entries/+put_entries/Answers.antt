@@ -29,4 +29,4 @@ returns-clause-filled g t c =
     let all = fit-more files here place (place + 1) (length into) (length rest) r (sym c.in-Some.ensures.record) (subst (λ k. k ≤ length into) len c.if-into-len.false) refl left in
     let whole = one-filled _ (fitting files here (place + 1) (length rest)) r into rest c.put_entries-more.new.into more all behind c.put_entries-more.ensures.filled in
     subst (λ (x : List ℕ). IsFilled (fitting files here place (length into)) (record { entries = more.entries + 1; bytes = more.bytes + c.record_len-len.result }) into (x ++ c.put_entries-more.new.into)) (sym c.put_entry.ensures)
-      (subst (λ k. IsFilled (fitting files here place (length into)) (record { entries = more.entries + 1; bytes = more.bytes + k }) into (r ++ c.put_entries-more.new.into)) (sym len) whole)
+    (subst (λ k. IsFilled (fitting files here place (length into)) (record { entries = more.entries + 1; bytes = more.bytes + k }) into (r ++ c.put_entries-more.new.into)) (sym len) whole)

@@ -12,7 +12,7 @@ returns-then-not-is_directory-clause-place g c = sym (sym c.loop-name.invariant 
 pub returns-in_default-child-clause-place : goal.returns-in_default-child-clause-place
 returns-in_default-child-clause-place g c =
     c.missing.ensures.place ∙ sym (sym c.loop-name.invariant ∙ at-missing _ _ _ _ _ c.in-Some.ensures.names c.if-name-gt255.false
-      (sym c.is_directory.ensures ∙ c.if-not-is_directory.false) (sym c.is_dot_dot.ensures ∙ c.if-is_dot_dot.false) (sym c.child.ensures ∙ c.in_default-child.is))
+    (sym c.is_directory.ensures ∙ c.if-not-is_directory.false) (sym c.is_dot_dot.ensures ∙ c.if-is_dot_dot.false) (sym c.child.ensures ∙ c.in_default-child.is))
 
 pub loop-name-preserved-then-is_dot_dot : goal.loop-name-preserved-then-is_dot_dot
 loop-name-preserved-then-is_dot_dot g c =
@@ -23,7 +23,7 @@ loop-name-preserved-then-is_dot_dot g c =
 pub loop-name-preserved : goal.loop-name-preserved
 loop-name-preserved g c =
     sym (at-child _ _ _ _ _ c.in-Some.ensures.names c.if-name-gt255.false (sym c.is_directory.ensures ∙ c.if-not-is_directory.false)
-      (sym c.is_dot_dot.ensures ∙ c.if-is_dot_dot.false) _ (sym c.child.ensures ∙ c.in-Some-child.is))
+    (sym c.is_dot_dot.ensures ∙ c.if-is_dot_dot.false) _ (sym c.child.ensures ∙ c.in-Some-child.is))
     ∙ c.loop-name.invariant
 
 pub returns-clause-place : goal.returns-clause-place
