@@ -2,11 +2,12 @@
 use Rattle.call_plan.specs.Ranges.{is_full}
 use Rattle.kernel_model.specs.Progress.{advanced, without_empty}
 use Rattle.kernel_model.specs.declared.ranges.Range.{Range}
-use Rattle.std.proofs.Common.{◌≡◌, ◌<◌, ◌≤◌, ◌+◌, ◌-◌, ℕ, Bool, true, false, cond, List, [], ◌∷◌, length, drop, refl, sym, ap, subst, ◌∙◌, arith}
-use Rattle.std.proofs.lemmas.Bool.{lt-ltb, le-ltb}
+use Rattle.std.proofs.Common.{◌≡◌, ◌≢◌, inl, inr, ◌<◌, ◌≤◌, ◌+◌, ◌-◌, ℕ, Bool, true, false, cond, List, [], ◌∷◌, length, drop, refl, sym, ap, subst, ◌∙◌, arith}
+use Rattle.std.proofs.lemmas.Bool.{cases_lt, lt-ltb, le-ltb}
+use Rattle.std.proofs.lemmas.List.{length-drop}
 use Rattle.std.proofs.lemmas.Bool.Decides.{nat_tests}
 use Rattle.std.specs.List.{list_all}
-use Rattle.std.specs.Prelude.{IsTrue, Some, slice_get, nat_lt, ◌&&◌}
+use Rattle.std.specs.Prelude.{◌⊎◌, ◌==◌, IsTrue, Some, slice_get, nat_lt, ◌&&◌}
 
 both : (a b : Bool) → IsTrue (a && b) → (a ≡ true) × IsTrue b
 both true b h = (refl, h)
@@ -64,3 +65,25 @@ pub past-items : (items : List Range) (r : Range) (n : ℕ) → (1 < length item
     → drop 1 items ≡ advanced n (without_empty items)
 past-items [] r n h e l = cc
 past-items (x ∷ xs) r n h e l = sym (advanced-past x xs h n (subst (λ (y : Range). y.len ≤ n) (same_some r x e) l))
+
+none_of : (xs : List Range) → length xs ≡ 0 → (length xs == 0) ≡ true
+none_of xs e = grind (arith, nat_tests, e)
+
+some_of : (x : Range) (xs : List Range) → (length (x ∷ xs) == 0) ≡ false
+some_of x xs = grind (arith, nat_tests)
+
+-- nothing is left behind n bytes, where the only range has no more
+pub used-up : (items : List Range) (r : Range) (n : ℕ) → (1 < length items → IsTrue (list_all is_full items)) → Some r ≡ slice_get items 0 → length items ≡ 1 → r.len ≤ n
+    → (length (advanced n (without_empty items)) == 0) ≡ true
+used-up items r n h e one l = ap (λ (rs : List Range). length rs == 0) (sym (past-items items r n h e l)) ∙ none_of (drop 1 items) (omega (arith, length-drop 1 items, one))
+
+pub left-over : (items : List Range) (r : Range) (n : ℕ) → (1 < length items → IsTrue (list_all is_full items)) → Some r ≡ slice_get items 0 → (length items ≢ 1) ⊎ (n < r.len)
+    → (length (advanced n (without_empty items)) == 0) ≡ false
+left-over [] r n h e w = cc
+left-over (x ∷ xs) r n h e w = elim (cases_lt n r.len) [
+  | inl l ↦ ap (λ (rs : List Range). length rs == 0) (sym (cut-items (x ∷ xs) r n h e l)) ∙ some_of (record { address = r.address + n; len = r.len - n }) xs
+  | inr l ↦ ap (λ (rs : List Range). length rs == 0) (sym (past-items (x ∷ xs) r n h e l)) ∙ more xs (elim w [ inl k ↦ k | inr k ↦ absurd (omega arith) ]) ]
+  where
+    more : (xs : List Range) → length (x ∷ xs) ≢ 1 → (length xs == 0) ≡ false
+    more [] k = absurd (k refl)
+    more (y ∷ ys) k = some_of y ys

@@ -147,6 +147,16 @@ impl Phases {
         }
     }
 
+    /// Whether nothing of the first phase is left behind `n` bytes of its first range.
+    pub fn is_last(&self, n: u64) -> bool
+        ensures { result ≡ (length (advanced n (without_empty (ranges_of (get_or self.now 0 Act)))) == 0) }
+    {
+        match self.stages {
+            Stages::GatherAct | Stages::GatherStream | Stages::Scatter | Stages::Stream => is_used_up(&self.ranges, n),
+            _ => true,
+        }
+    }
+
     /// Goes on behind `n` bytes of the first phase's first range.
     pub fn advance(&mut self, n: u64)
         requires { IfSome (slice_get (without_empty (ranges_of (get_or self.old 0 Act))) 0) (λ r. r.address + n < 2 ^ 64) }
@@ -187,6 +197,17 @@ fn first_full(ranges: &ArrayVec<Range, 16>) -> Option<Range>
     match ranges.first() {
         Some(range) if range.len > 0 => Some(*range),
         _ => None,
+    }
+}
+
+/// Whether nothing is left behind `n` bytes of the first range.
+fn is_used_up(ranges: &ArrayVec<Range, 16>, n: u64) -> bool
+    requires { 1 < length ranges.now.items → IsTrue (list_all is_full ranges.now.items) }
+    ensures { result ≡ (length (advanced n (without_empty ranges.now.items)) == 0) }
+{
+    match ranges.first() {
+        None => true,
+        Some(first) => ranges.len() == 1 && first.len <= n,
     }
 }
 

@@ -8,5 +8,7 @@
 pub mod acts;
 pub mod ends;
 pub mod progress;
+pub mod steps;
+pub mod streams;
 
 pub use progress::Progress;

@@ -1,0 +1,38 @@
+-- Streams that end.
+use Rattle.call_progress.specs.Kept.{HasOut, Kept}
+use Rattle.file_calls.specs.Pieces.{HasRoom}
+use Rattle.file_calls.specs.Rooms.{Room}
+use Rattle.file_model.specs.FileSteps.{ready}
+use Rattle.file_model.specs.Files.{Files}
+use Rattle.file_model.specs.declared.operations.FileOp.{FileOp}
+use Rattle.file_model.specs.declared.operations.FileOp.TheVariants.{Get, Put}
+use Rattle.file_model.specs.declared.operations.Readiness.TheVariants.{FileStep}
+use Rattle.file_model.specs.declared.descriptions.Target.{Target}
+use Rattle.kernel_model.specs.Plans.{Phase, Gather, Act, Scatter, Stream, act_of}
+use Rattle.kernel_model.specs.Progress.{stream_operation}
+use Rattle.std.specs.Prelude.{◌≡◌, ◌⊎◌, ℕ, get_or}
+
+abbrev pub IsStream : FileOp → Type 0
+IsStream (Get d at moved n) = Unit {0}
+IsStream (Put d at moved n) = Unit {0}
+IsStream _ = ⊥
+
+abbrev pub len_asked : FileOp → ℕ
+len_asked (Get d at moved n) = n
+len_asked (Put d at moved n) = n
+len_asked _ = 0
+
+-- the piece can move nothing, or has no bytes
+abbrev pub EndsStream : Files → FileOp → Type 0
+EndsStream files op = (ready files op ≡ FileStep) ⊎ (len_asked op ≡ 0)
+
+-- what the file step of a phase needs, so that it takes no memory
+abbrev pub HasStepRoom : Room → (Target → ℕ → Type 0) → Files → Kept → Phase → Type 0
+HasStepRoom room can_write files k (Gather rs) = Unit {0}
+HasStepRoom room can_write files k Act = let op = act_of k.progress.number k.progress.arguments in HasRoom room can_write files op × HasOut op k.out
+HasStepRoom room can_write files k (Scatter rs) = Unit {0}
+HasStepRoom room can_write files k (Stream rs) = HasRoom room can_write files (stream_operation k.progress)
+
+-- the same of the phase under way
+abbrev pub HasRoomForStep : Room → (Target → ℕ → Type 0) → Files → Kept → Type 0
+HasRoomForStep room can_write files k = HasStepRoom room can_write files k (get_or k.progress.phases 0 Act)
