@@ -121,3 +121,4 @@ pub mod TrapGoes
 pub mod TrapSteps
 pub mod WholeTrap
 pub mod LwkHolds
+pub mod WholeTrapChanges
