@@ -19,7 +19,8 @@ ghost use Rattle.hybrid_model.specs.declared.events.Event.TheVariants.{Answer, I
 ghost use Rattle.kernel_model.specs.Nodes.{Node, thread_of};
 ghost use Rattle.kernel_model.specs.Progress.{Progress};
 ghost use Rattle.kernel_model.specs.Signals.{View};
-ghost use Rattle.kernel_model.specs.Traps.{Begins, Done, trap};
+ghost use Rattle.kernel_model.specs.Traps.{Begins, Changes, Done, trap};
+ghost use Rattle.kernel_model.specs.declared.Change.{Change};
 ghost use Rattle.mck_word.specs.declared.Pid.{Pid};
 ghost use Rattle.mck_word.specs.declared.Tid.{Tid};
 ghost use Rattle.std.specs.Prelude.{◌≡◌, ◌≢◌, true, None, Some, length, ℕ};
@@ -35,14 +36,17 @@ pub fn every_intake()
     ensures simulated { (pair : Pair) (q : Pid) → Coherent pair → may pair (Intake q) ≡ true → Runs (one pair) (image pair (Intake q)) (one (after pair (Intake q))) }
 {}
 
-/// A trap that is done at once (a local call but fork, a memory call that waits for a round or is answered, a raised signal), or begins a
-/// delegated call: coherence is kept, and the image is a run of the one-kernel machine.
-pub fn every_trap_without_effect()
+/// A trap that is done at once (a local call but fork, a memory call that waits for a round or is answered, a raised signal), begins a
+/// delegated call, or changes the memory at once: coherence is kept, and the image is a run of the one-kernel machine.
+pub fn every_trap_but_fork()
     ensures done { (pair : Pair) (t : Tid) (v : View) → Coherent pair → may pair (Trap t) ≡ true
         → trap t.0 (length pair.free) (view_here (here pair (thread_of pair.node t.0).process)) ≡ Done v
         → Coherent (after pair (Trap t)) × Runs (one pair) (image pair (Trap t)) (one (after pair (Trap t))) }
     ensures begins { (pair : Pair) (t : Tid) (node : Node) (progress : Progress) → Coherent pair → may pair (Trap t) ≡ true
         → trap t.0 (length pair.free) (view_here (here pair (thread_of pair.node t.0).process)) ≡ Begins node progress
+        → Coherent (after pair (Trap t)) × Runs (one pair) (image pair (Trap t)) (one (after pair (Trap t))) }
+    ensures changes { (pair : Pair) (t : Tid) (change : Change) (node : Node) → Coherent pair → may pair (Trap t) ≡ true
+        → trap t.0 (length pair.free) (view_here (here pair (thread_of pair.node t.0).process)) ≡ Changes node change
         → Coherent (after pair (Trap t)) × Runs (one pair) (image pair (Trap t)) (one (after pair (Trap t))) }
 {}
 
@@ -57,14 +61,12 @@ pub fn every_trap_of_one_process()
         → OfProcess p h.side h.node workers (ring_of h) → FramesOf tables p (space_here h) → h.born ≡ None → Simulated (Trap t) p h }
 {}
 
-/// Answer with a row in the whole state; and without one, on its process.
+/// Answer with a row and without one: coherence is kept, and the image is a run of the one-kernel machine.
 pub fn every_answer()
     ensures with_row { (pair : Pair) (q : Pid) (w : ℕ) (row : Row) → Coherent pair → may pair (Answer q w) ≡ true → answer_to (side_of pair q.0) w ≡ Some row
         → Coherent (after pair (Answer q w)) × Runs (one pair) (image pair (Answer q w)) (one (after pair (Answer q w))) }
-    ensures own { (p w workers : ℕ) (q : Pid) (h : Here) (ring : ℕ → ℕ) → may_here (Answer q w) h ≡ true
-        → OfProcess p h.side h.node workers ring → OfProcess p (after_here (Answer q w) p h).side (after_here (Answer q w) p h).node workers ring }
-    ensures empty { (p w workers : ℕ) (q : Pid) (h : Here) (ring : ℕ → ℕ) → may_here (Answer q w) h ≡ true → OfProcess p h.side h.node workers ring
-        → answer_to h.side w ≡ None → Simulated (Answer q w) p h }
+    ensures empty { (pair : Pair) (q : Pid) (w : ℕ) → Coherent pair → may pair (Answer q w) ≡ true → answer_to (side_of pair q.0) w ≡ None
+        → Coherent (after pair (Answer q w)) × Runs (one pair) (image pair (Answer q w)) (one (after pair (Answer q w))) }
 {}
 
 /// Reap, on the process that ends and for every other one.
