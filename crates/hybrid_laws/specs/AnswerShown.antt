@@ -108,7 +108,7 @@ module _ (p : ℕ) (q : Pid) (w : ℕ) (h : Here) (m : may_here (Events.Answer q
     pub next : IsForNext (at h.side.linux.workers) (at h.side.linux.services) w n.noted.0 n.noted.1
     next = k.served.noted_for w n.noted n.there
 
-    abbrev number : ℕ
+    abbrev pub number : ℕ
     number = next.number
 
     faulting-one : faulting (at h.side.book.rows) (Some number) ≡ 1
@@ -147,7 +147,7 @@ module _ (p : ℕ) (q : Pid) (w : ℕ) (h : Here) (m : may_here (Events.Answer q
     abbrev progress : Progress
     progress = (service_of h.side.linux.services number).progress
 
-    status-now : status_of h.side number ≡ Active progress
+    pub status-now : status_of h.side number ≡ Active progress
     status-now =
       let is = faulted.1 in
       let e = no_empty (at h.side.linux.workers) number w alone h.side.to_linux no-answers in
@@ -179,14 +179,14 @@ module _ (p : ℕ) (q : Pid) (w : ℕ) (h : Here) (m : may_here (Events.Answer q
     empty-for : (x : ℕ) → is_empty_for (at h.side.linux.workers) x (Answer w (noted_of h.side w).0 h.side.lwk.begun (answer_to h.side w)) ≡ (number == x)
     empty-for x = ap (λ (o : Option Row). is_empty_for (at h.side.linux.workers) x (Answer w (noted_of h.side w).0 h.side.lwk.begun o)) none ∙ ap (serves_it x) next.serves
 
-    status-own : status_of side' number ≡ Over (fault_answer progress)
+    pub status-own : status_of side' number ≡ Over (fault_answer progress)
     status-own =
       let same : (number == number) ≡ true = grind (arith, nat_tests) in
       let e = has_empty-posted (at h.side.linux.workers) number r (Answer w (noted_of h.side w).0 h.side.lwk.begun (answer_to h.side w)) h.side.to_linux (empty-for number ∙ same) in
       ap (λ (o : Option (ReqState × Call)). status_in (state_in o) (call_in o) (service_of h.side.linux.services number) (has_empty (at h.side.linux.workers) number side'.to_linux) (reply_code number h.side.to_lwk)) faulted.1
       ∙ ap (λ b. ended_if b progress) e
 
-    status-other : (x : ℕ) → (x == number) ≡ false → status_of side' x ≡ status_of h.side x
+    pub status-other : (x : ℕ) → (x == number) ≡ false → status_of side' x ≡ status_of h.side x
     status-other x e =
       let d : (number == x) ≡ false = grind (arith, nat_tests, e) in
       ap (λ b. status_in (state_in (at h.side.book.rows x)) (call_in (at h.side.book.rows x)) (service_of h.side.linux.services x) b (reply_code x h.side.to_lwk))
@@ -195,7 +195,7 @@ module _ (p : ℕ) (q : Pid) (w : ℕ) (h : Here) (m : may_here (Events.Answer q
     calls : put (each (shown_call h.side) h.side.lwk.callers) t (record { marked = (the-caller p h.side h.node workers ring k number Faulted faulted.0 faulted.1 refl).0.marked; status = Over (fault_answer progress) }) ≡ each (shown_call side') h.side.lwk.callers
     calls = calls-after p h.side h.node workers ring k number Faulted faulted.0 faulted.1 refl side' (Over (fault_answer progress)) status-own status-other
 
-    files : given_back progress h.node.files ≡ files_after_answer (answer_to h.side w) (served h.side.linux w).progress h.node.files
+    pub files : given_back progress h.node.files ≡ files_after_answer (answer_to h.side w) (served h.side.linux w).progress h.node.files
     files = sym (ap (λ (o : Option ℕ). files_after_answer None (service_of h.side.linux.services (unwrap_or o 0)).progress h.node.files) next.serves) ∙ sym (ap (λ (o : Option Row). files_after_answer o (served h.side.linux w).progress h.node.files) none)
 
     pub leads_fault : OneSteps.after_here (Steps.PieceFault (tid t)) p (shown_here h) ≡ shown_here (give_answer w h)

@@ -28,6 +28,7 @@ pub record NowSays (x : Process) (m : Memory) (free : ℕ) (c : Change) : Type 0
   pub added : (j : ℕ) → in_range (effect_of x c).added j ≡ true → at m j ≡ None
   pub rights : (j : ℕ) (y : Page) → in_range (effect_of x c).protected j ≡ true → at m j ≡ Some y → lessens y.rights (effect_of x c).rights ≡ false
   pub enough : pages_count (effect_of x c).added ≤ free
+  pub bound : x.program_break ≤ x.heap_base + most_heap → (effect_of x c).program_break ≤ x.heap_base + most_heap
 
 abbrev pub DecisionSays : Process → Memory → ℕ → Decision → Type 0
 DecisionSays x m free (DecidedReply answer) = Unit {0}
@@ -82,6 +83,7 @@ module _ (x : Process) (m : Memory) (free : ℕ) where
     added = λ j i. count-none m r e j i;
     rights = λ j y i k. absurd (none-in j i);
     enough = l;
+    bound = λ b. b;
   }
 
   fixed-says : (r : PageRange) (rights : Rights) → Says (map_fixed m free r rights)
@@ -118,6 +120,7 @@ module _ (x : Process) (m : Memory) (free : ℕ) where
         added = λ j i. absurd (none-in j i);
         rights = λ j y i k. right (in_range r j) (lessens y.rights rights) i (no-row (λ page (z : Page). in_range r page && lessens z.rights rights) m e j y k);
         enough = omega arith;
+        bound = λ b. b;
       }) (λ f. tt))
     where
       right : (a b : Bool) → a ≡ true → (a && b) ≡ false → b ≡ false
@@ -131,10 +134,16 @@ module _ (x : Process) (m : Memory) (free : ℕ) where
 
   brk-says : (a : ℕ) → Says (brk x m free a)
   brk-says a = says-if (nat_lt a x.heap_base || nat_lt (x.heap_base + most_heap) a) (DecidedReply (pos x.program_break)) (cond (nat_lt a x.program_break) (brk_down x m a) (brk_up x m free a)) (λ e. tt)
-      (λ e. says-if (nat_lt a x.program_break) (brk_down x m a) (brk_up x m free a) down up)
+      (λ e. says-if (nat_lt a x.program_break) (brk_down x m a) (brk_up x m free a) (down (in-heap e)) (up (in-heap e)))
     where
-      down : nat_lt a x.program_break ≡ true → Says (brk_down x m a)
-      down e =
+      in-heap : (nat_lt a x.heap_base || nat_lt (x.heap_base + most_heap) a) ≡ false → a ≤ x.heap_base + most_heap
+      in-heap e = second (nat_lt a x.heap_base) (nat_lt (x.heap_base + most_heap) a) e
+        where
+          second : (b c : Bool) → (b || nat_lt (x.heap_base + most_heap) a) ≡ false → a ≤ x.heap_base + most_heap
+          second true c f = absurd (grind (arith, f))
+          second false c f = not-below (x.heap_base + most_heap) a f
+      down : a ≤ x.heap_base + most_heap → nat_lt a x.program_break ≡ true → Says (brk_down x m a)
+      down most e =
           go (nat_lt 0 (count_present m (range (page_end a) (page_end x.program_break)))) refl
         where
           lower : page_end a ≤ page_end x.program_break
@@ -147,18 +156,20 @@ module _ (x : Process) (m : Memory) (free : ℕ) where
             added = λ j i. absurd (empty-in (page_end x.program_break) (page_end a) j lower i);
             rights = λ j y i k. absurd (none-in j i);
             enough = none-added (page_end a) (page_end x.program_break) lower;
+            bound = λ b. most;
           }
             where
               none-added : (u v : ℕ) → u ≤ v → u - v ≤ free
               none-added u v l = omega (arith, l)
 
-      up : nat_lt a x.program_break ≡ false → Says (brk_up x m free a)
-      up e =
+      up : a ≤ x.heap_base + most_heap → nat_lt a x.program_break ≡ false → Says (brk_up x m free a)
+      up most e =
           says-if (nat_lt 0 (count_present m r) || nat_lt free (pages_count r)) (DecidedReply (pos x.program_break)) (Now (Brk a)) (λ f. tt) (λ f. record {
             dropped = λ j i. absurd (empty-in (page_end a) (page_end x.program_break) j higher i);
             added = λ j i. count-none m r (let s = neither (nat_lt 0 (count_present m r)) (nat_lt free (pages_count r)) f in let l = not-below 0 (count_present m r) s.0 in omega (arith, l)) j i;
             rights = λ j y i k. absurd (none-in j i);
             enough = (let s = neither (nat_lt 0 (count_present m r)) (nat_lt free (pages_count r)) f in not-below free (pages_count r) s.1);
+            bound = λ b. most;
           })
         where
           r : PageRange

@@ -86,6 +86,7 @@ pub mod FileOps
 pub mod CallSteps
 pub mod CallLaws
 pub mod WholeStep
+pub mod WholeCalls
 pub mod WholeAct
 pub mod WholePark
 pub mod IntakeAck
@@ -111,6 +112,7 @@ pub mod WholeScript
 pub mod WholeRunSteps
 pub mod WholeBeginVm
 pub mod WholeAnswerRow
+pub mod WholeAnswerEmpty
 pub mod WholeIntakeFault
 pub mod WholeIntakeReply
 pub mod EffectCounts
@@ -124,3 +126,4 @@ pub mod LwkHolds
 pub mod Lasting
 pub mod Still
 pub mod NoStall
+pub mod WholeTrapChanges

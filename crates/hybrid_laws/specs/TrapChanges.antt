@@ -138,7 +138,7 @@ module _ (p t : ℕ) (h : Here) (x : Traps h.node t) (mine : x.thread.process �
   abbrev one_free : ℕ → Bool
   one_free u = u == t
 
-  abbrev changer : Process
+  abbrev pub changer : Process
   changer = process_of new p
 
   new-process : (thread_of new t).process ≡ p
@@ -146,7 +146,7 @@ module _ (p t : ℕ) (h : Here) (x : Traps h.node t) (mine : x.thread.process �
       ap (λ (m : Node). (thread_of m t).process) past
       ∙ ap (λ (o : Option Thread). (unwrap_or o no_thread).process) (thread-changed h.node t (λ (y : Thread). record y { regs = set_pc (y.regs.pc + 4) y.regs }) x.thread x.there) ∙ mine
 
-  says : NowSays changer (memory_here h) (length h.free) c
+  pub says : NowSays changer (memory_here h) (length h.free) c
   says = subst (λ (d : Decision). DecisionSays changer (memory_here h) (length h.free) d) (ap (λ (q : ℕ). decide (process_of new q) (memory_here h) (length h.free) number arguments) (sym new-process) ∙ decided)
       (decide-says changer (memory_here h) (length h.free) number arguments)
 

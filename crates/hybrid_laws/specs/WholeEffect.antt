@@ -5,6 +5,7 @@ use Rattle.hybrid_laws.specs.Effects.{frames_effect, length-add}
 use Rattle.hybrid_laws.specs.NodePrimitives.{at-change}
 use Rattle.hybrid_laws.specs.Reading.{each-same}
 use Rattle.hybrid_laws.specs.SoundNode.{Sound}
+use Rattle.hybrid_laws.specs.Sums.{counted_in, total-same}
 use Rattle.hybrid_laws.specs.Threads.{process-changed}
 use Rattle.hybrid_laws.specs.WholeQuiet.{own-frames}
 use Rattle.hybrid_model.specs.Globals.{Coherent, Frames, HeapHolds, table_of, copies}
@@ -15,7 +16,7 @@ use Rattle.hybrid_model.specs.Sides.{Row, Side, new_side}
 use Rattle.hybrid_model.specs.Spaces.{Space, after_effect, drop_page, add_page, first_number, give_back, protect_page, rest_numbers, shown_row}
 use Rattle.hybrid_model.specs.Tallies.{Reads}
 use Rattle.kernel_model.specs.MemoryCalls.{Effect, most_heap}
-use Rattle.kernel_model.specs.Nodes.{Node, Process, has_ended, has_process, is_there}
+use Rattle.kernel_model.specs.Nodes.{Node, Process, has_ended, has_process, is_there, instructions_in_all, is_ended}
 use Rattle.kernel_model.specs.Pages.{pages_count, zero_page}
 use Rattle.kernel_model.specs.Spaces.{each_in, each_page}
 use Rattle.mck_flags.specs.declared.rights.Rights.{Rights}
@@ -172,3 +173,34 @@ break-sound node p b h s = record {
     below : (q : ℕ) (y : Process) → at (set_break p b node).processes q ≡ Some y → (o : Option Process) → at node.processes q ≡ o → q < node.next_number
     below q y e (Some x) f = s.processes_below q x f
     below q y e None f = absurd (let k = sym (made-set q) ∙ ap is_some e in let j = ap is_some f in grind (arith, k, j))
+
+-- a break set: processes stay, and their instructions
+module _ (node : Node) (p b : ℕ) where
+  abbrev reset : Process → Process
+  reset z = record z { program_break = b }
+
+  abbrev set : Node
+  set = set_break p b node
+
+  pub set-ended : (x : ℕ) → is_ended set x ≡ is_ended node x
+  set-ended x = ap has_ended (process-changed (λ z. z.life) node p x reset (λ z. refl))
+
+  pub set-made : (x : ℕ) → has_process set x ≡ has_process node x
+  set-made x = ap is_some (at-change node.processes p reset x) ∙ go (x == p) refl
+    where
+      mapped : (o : Option Process) → is_some (option_map reset o) ≡ is_some o
+      mapped None = refl
+      mapped (Some z) = refl
+      go : (y : Bool) → (x == p) ≡ y → is_some (cond y (option_map reset (at node.processes p)) (at node.processes x)) ≡ has_process node x
+      go true f = let g : x ≡ p = grind (arith, nat_tests, f) in mapped (at node.processes p) ∙ ap (has_process node) (sym g)
+      go false f = refl
+
+  pub set-instructions : instructions_in_all set ≡ instructions_in_all node
+  set-instructions = total-same (λ (z : Process). z.instructions) set.processes node.processes (λ x. ap (counted_in (λ (z : Process). z.instructions)) (at-change node.processes p reset x) ∙ go x (x == p) refl)
+    where
+      mapped : (o : Option Process) → counted_in (λ (z : Process). z.instructions) (option_map reset o) ≡ counted_in (λ (z : Process). z.instructions) o
+      mapped None = refl
+      mapped (Some z) = refl
+      go : (x : ℕ) (y : Bool) → (x == p) ≡ y → counted_in (λ (z : Process). z.instructions) (cond y (option_map reset (at node.processes p)) (at node.processes x)) ≡ counted_in (λ (z : Process). z.instructions) (at node.processes x)
+      go x true f = let g : x ≡ p = grind (arith, nat_tests, f) in mapped (at node.processes p) ∙ ap (λ (j : ℕ). counted_in (λ (z : Process). z.instructions) (at node.processes j)) (sym g)
+      go x false f = refl

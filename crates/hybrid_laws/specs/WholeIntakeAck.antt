@@ -7,12 +7,10 @@ use Rattle.hybrid_laws.specs.CallsClosed.{finishes-closed}
 use Rattle.hybrid_laws.specs.EffectCounts.{absent-at-end}
 use Rattle.hybrid_laws.specs.Goes.{GoesAwake, GoesOn, IsAwake, goes-closed}
 use Rattle.hybrid_laws.specs.IntakeAck.{ack-is, fits_at_end, is-none}
-use Rattle.hybrid_laws.specs.NodePrimitives.{at-change}
 use Rattle.hybrid_laws.specs.SoundNode.{Sound, goes-sound, goes-stays, is-awake, same-ended, same-instructions, same-made, sound-of, stopped-less}
-use Rattle.hybrid_laws.specs.Sums.{counted_in, total-same}
 use Rattle.hybrid_laws.specs.Tests.{some-is}
-use Rattle.hybrid_laws.specs.Threads.{process-changed, thread-is}
-use Rattle.hybrid_laws.specs.WholeEffect.{below-after, break-sound, counted-after, framed-effect, shown-else}
+use Rattle.hybrid_laws.specs.Threads.{thread-is}
+use Rattle.hybrid_laws.specs.WholeEffect.{below-after, break-sound, counted-after, framed-effect, shown-else, set-ended, set-instructions, set-made}
 use Rattle.hybrid_laws.specs.WholeNode.{Keeping, coherent-later}
 use Rattle.hybrid_laws.specs.WholePair.{has-side, there-has, there-open}
 use Rattle.hybrid_laws.specs.WholeQuiet.{own-frames, sleeping-after}
@@ -32,7 +30,7 @@ use Rattle.ikc_ring.specs.declared.Msg.{Msg}
 use Rattle.ikc_ring.specs.declared.Msg.TheVariants.{Ack}
 use Rattle.isa_model.specs.Memory.{Memory}
 use Rattle.kernel_model.specs.MemoryCalls.{Effect, answer_of_change, effect_of, most_heap, refusal_at_end}
-use Rattle.kernel_model.specs.Nodes.{Node, Process, Thread, has_ended, has_process, instructions_in_all, is_asleep, is_ended, is_there, no_process, process_of}
+use Rattle.kernel_model.specs.Nodes.{Node, Process, Thread, is_asleep, is_there, no_process, process_of}
 use Rattle.kernel_model.specs.Traps.{finishes}
 use Rattle.kernel_model.specs.declared.Change.{Change}
 use Rattle.kernel_model.specs.declared.Change.TheVariants.{Brk, Map as ChangeMap, Protect, Unmap}
@@ -41,7 +39,7 @@ use Rattle.mck_word.specs.Maps.{Map, at}
 use Rattle.mck_word.specs.declared.Pid.{Pid}
 use Rattle.std.proofs.Common.{ap, arith, refl, subst, sym, ◌∙◌}
 use Rattle.std.proofs.lemmas.Bool.Decides.{nat_tests}
-use Rattle.std.specs.Prelude.{Bool, List, None, Option, Some, [], cond, false, is_some, length, nat_lt, option_map, pos, true, unwrap_or, ℕ, ℤ, ◌+◌, ◌<◌, ◌==◌, ◌∷◌, ◌≡◌, ◌≤◌}
+use Rattle.std.specs.Prelude.{List, None, Option, Some, [], false, length, nat_lt, pos, true, unwrap_or, ℕ, ℤ, ◌+◌, ◌<◌, ◌==◌, ◌∷◌, ◌≡◌, ◌≤◌}
 
 -- the break after a change that is made is in bounds, where the one before was
 pub break-bound : (x : Process) → HeapHolds x → (m : Memory) (free : ℕ) (c : Change) → refusal_at_end x m free c ≡ None → (effect_of x c).program_break ≤ x.heap_base + most_heap
@@ -143,9 +141,6 @@ module _ (pair : Pair) (c : Coherent pair) (q : Pid) (there : is_there pair.node
   abbrev set : Node
   set = set_break p e.program_break pair.node
 
-  abbrev reset : Process → Process
-  reset z = record z { program_break = e.program_break }
-
   abbrev done : Node
   done = finishes thread (answer_of_change change) set
 
@@ -156,29 +151,6 @@ module _ (pair : Pair) (c : Coherent pair) (q : Pid) (there : is_there pair.node
   set-sound r = break-sound pair.node p e.program_break (λ x f. (let b = break-bound (process_of pair.node p) heap (memory_here h) (length h.free) change r in let g = sym made.1 ∙ f in let z : made.0 ≡ x = cc in
     let y = ap (λ (w : Process). w.heap_base) (process-is ∙ z) in omega (arith, b, y))) (sound-of pair c)
 
-  set-ended : (x : ℕ) → is_ended set x ≡ is_ended pair.node x
-  set-ended x = ap has_ended (process-changed (λ z. z.life) pair.node p x reset (λ z. refl))
-
-  set-made : (x : ℕ) → has_process set x ≡ has_process pair.node x
-  set-made x = ap is_some (at-change pair.node.processes p reset x) ∙ go (x == p) refl
-    where
-      mapped : (o : Option Process) → is_some (option_map reset o) ≡ is_some o
-      mapped None = refl
-      mapped (Some z) = refl
-      go : (b : Bool) → (x == p) ≡ b → is_some (cond b (option_map reset (at pair.node.processes p)) (at pair.node.processes x)) ≡ has_process pair.node x
-      go true f = let g : x ≡ p = grind (arith, nat_tests, f) in mapped (at pair.node.processes p) ∙ ap (has_process pair.node) (sym g)
-      go false f = refl
-
-  set-instructions : instructions_in_all set ≡ instructions_in_all pair.node
-  set-instructions = total-same (λ (z : Process). z.instructions) set.processes pair.node.processes (λ x. ap (counted_in (λ (z : Process). z.instructions)) (at-change pair.node.processes p reset x) ∙ go x (x == p) refl)
-    where
-      mapped : (o : Option Process) → counted_in (λ (z : Process). z.instructions) (option_map reset o) ≡ counted_in (λ (z : Process). z.instructions) o
-      mapped None = refl
-      mapped (Some z) = refl
-      go : (x : ℕ) (b : Bool) → (x == p) ≡ b → counted_in (λ (z : Process). z.instructions) (cond b (option_map reset (at pair.node.processes p)) (at pair.node.processes x)) ≡ counted_in (λ (z : Process). z.instructions) (at pair.node.processes x)
-      go x true f = let g : x ≡ p = grind (arith, nat_tests, f) in mapped (at pair.node.processes p) ∙ ap (λ (j : ℕ). counted_in (λ (z : Process). z.instructions) (at pair.node.processes j)) (sym g)
-      go x false f = refl
-
   abbrev sp : Space
   sp = after_effect e (space_here h)
 
@@ -187,7 +159,7 @@ module _ (pair : Pair) (c : Coherent pair) (q : Pid) (there : is_there pair.node
     let stays = goes-stays set done done-goes.goes in
     let l = fits_at_end (process_of pair.node p) (space_here h) change r in
     let none = absent-at-end (process_of pair.node p) (space_here h) change r in
-    let ended = λ (x : ℕ). same-ended set done stays x ∙ set-ended x in
+    let ended = λ (x : ℕ). same-ended set done stays x ∙ set-ended pair.node p e.program_break x in
     record {
       own = subst (λ (o : Option ℤ). OfProcess p (changed p thread change o (with_side h over)).side (changed p thread change o (with_side h over)).node pair.workers (ring_number pair)) r (ack.keeps-changed p h pair.workers (ring_number pair) k rest first heap refusal refl);
       others = λ x d. ack.others-changed p h pair.workers (ring_number pair) k rest first heap None x (side_of pair x) pair.workers (ring_number pair) d (c.whole x);
@@ -196,7 +168,7 @@ module _ (pair : Pair) (c : Coherent pair) (q : Pid) (there : is_there pair.node
       free_below = (below-after pair c p e l none).free;
       counted = counted-after pair c p e l none;
       frame_count = done-goes.goes.frames;
-      made = λ x. same-made set done stays x ∙ set-made x;
+      made = λ x. same-made set done stays x ∙ set-made pair.node p e.program_break x;
       ended_others = λ x d f. sym (ended x) ∙ f;
       ended_own = λ f. absurd (let a = there-open pair.node p there in let b = sym (ended p) ∙ f in grind (arith, a, b));
       rings = refl;
@@ -205,8 +177,8 @@ module _ (pair : Pair) (c : Coherent pair) (q : Pid) (there : is_there pair.node
       held = λ d. (let a = held-same sp.table d in let b = ap (λ (f : Files). (description_of f d).calls) done-goes.goes.files in omega (arith, a, b));
       calls = calls-hold sp.table;
       sound = goes-sound set done done-goes.goes (set-sound r) (sleeping-after thread set done done-goes awake (set-sound r).sleeping);
-      paid = (let a = stopped-less set done done-goes.goes in let b = same-instructions set done done-goes.goes in let d = done-goes.goes.next in let f = set-instructions in omega (arith, a, b, d, f));
-      limit = (let a = same-instructions set done done-goes.goes in let b = done-goes.goes.limit in let d = c.numbers.limit in let f = set-instructions in omega (arith, a, b, d, f)) }
+      paid = (let a = stopped-less set done done-goes.goes in let b = same-instructions set done done-goes.goes in let d = done-goes.goes.next in let f = set-instructions pair.node p e.program_break in omega (arith, a, b, d, f));
+      limit = (let a = same-instructions set done done-goes.goes in let b = done-goes.goes.limit in let d = c.numbers.limit in let f = set-instructions pair.node p e.program_break in omega (arith, a, b, d, f)) }
 
   -- ---- together
   coherent-changed : (o : Option ℤ) → refusal ≡ o → Coherent (put_here pair p (changed p thread change o (with_side h over)))

@@ -1,0 +1,5 @@
+use Rattle.hybrid_laws.specs.LwkHolds.{holds_quiet_lwk}
+use Rattle.hybrid_laws.proofs.lwk_laws.every_quiet_lwk_event.Goals as goal
+
+pub returns : goal.returns
+returns c = λ pair e coherent quiet allowed. holds_quiet_lwk pair coherent e quiet allowed

@@ -1,0 +1,80 @@
+// Laws of the events of the lightweight kernel.
+ghost use Rattle.hybrid_laws.specs.Effects.{FramesOf};
+ghost use Rattle.hybrid_laws.specs.LwkHolds.{is_quiet_lwk};
+ghost use Rattle.hybrid_laws.specs.Simulated.{Simulated};
+ghost use Rattle.hybrid_laws.specs.TrapBegins.{RingsHold};
+ghost use Rattle.hybrid_laws.specs.TrapKeeps.{NodeHolds};
+ghost use Rattle.hybrid_model.specs.Claims.{Holds, Runs};
+ghost use Rattle.hybrid_model.specs.Coherence.{OfProcess};
+ghost use Rattle.hybrid_model.specs.Events.{after, after_here, may, may_here};
+ghost use Rattle.hybrid_model.specs.Globals.{Coherent};
+ghost use Rattle.hybrid_model.specs.Images.{image};
+ghost use Rattle.hybrid_model.specs.Lwk.{answer_to, space_here, view_here};
+ghost use Rattle.hybrid_model.specs.Pairs.{Here, Pair, here, ring_of, side_of};
+ghost use Rattle.hybrid_model.specs.Shown.{one};
+ghost use Rattle.hybrid_model.specs.Sides.{Row, Side};
+ghost use Rattle.hybrid_model.specs.Tallies.{Reads};
+ghost use Rattle.hybrid_model.specs.declared.events.Event.{Event};
+ghost use Rattle.hybrid_model.specs.declared.events.Event.TheVariants.{Answer, Intake, Reap, Trap};
+ghost use Rattle.kernel_model.specs.Nodes.{Node, thread_of};
+ghost use Rattle.kernel_model.specs.Progress.{Progress};
+ghost use Rattle.kernel_model.specs.Signals.{View};
+ghost use Rattle.kernel_model.specs.Traps.{Begins, Changes, Done, trap};
+ghost use Rattle.kernel_model.specs.declared.Change.{Change};
+ghost use Rattle.mck_word.specs.declared.Pid.{Pid};
+ghost use Rattle.mck_word.specs.declared.Tid.{Tid};
+ghost use Rattle.std.specs.Prelude.{◌≡◌, ◌≢◌, true, None, Some, length, ℕ};
+
+/// Run, Deliver, BeginVm, Interrupt, Wait and Script, where they may happen in a coherent state.
+pub fn every_quiet_lwk_event()
+    ensures { (pair : Pair) (e : Event) → Coherent pair → is_quiet_lwk e ≡ true → may pair e ≡ true → Holds pair e }
+{}
+
+/// Intake of a Reply, of a Fault and of an Ack with any change: coherence is kept, and the image is a run of the one-kernel machine.
+pub fn every_intake()
+    ensures coherent { (pair : Pair) (q : Pid) → Coherent pair → may pair (Intake q) ≡ true → Coherent (after pair (Intake q)) }
+    ensures simulated { (pair : Pair) (q : Pid) → Coherent pair → may pair (Intake q) ≡ true → Runs (one pair) (image pair (Intake q)) (one (after pair (Intake q))) }
+{}
+
+/// A trap that is done at once (a local call but fork, a memory call that waits for a round or is answered, a raised signal), begins a
+/// delegated call, or changes the memory at once: coherence is kept, and the image is a run of the one-kernel machine.
+pub fn every_trap_but_fork()
+    ensures done { (pair : Pair) (t : Tid) (v : View) → Coherent pair → may pair (Trap t) ≡ true
+        → trap t.0 (length pair.free) (view_here (here pair (thread_of pair.node t.0).process)) ≡ Done v
+        → Coherent (after pair (Trap t)) × Runs (one pair) (image pair (Trap t)) (one (after pair (Trap t))) }
+    ensures begins { (pair : Pair) (t : Tid) (node : Node) (progress : Progress) → Coherent pair → may pair (Trap t) ≡ true
+        → trap t.0 (length pair.free) (view_here (here pair (thread_of pair.node t.0).process)) ≡ Begins node progress
+        → Coherent (after pair (Trap t)) × Runs (one pair) (image pair (Trap t)) (one (after pair (Trap t))) }
+    ensures changes { (pair : Pair) (t : Tid) (change : Change) (node : Node) → Coherent pair → may pair (Trap t) ≡ true
+        → trap t.0 (length pair.free) (view_here (here pair (thread_of pair.node t.0).process)) ≡ Changes node change
+        → Coherent (after pair (Trap t)) × Runs (one pair) (image pair (Trap t)) (one (after pair (Trap t))) }
+{}
+
+/// Any trap, also one that changes the memory at once or makes a process, on the process of its thread: what holds of it is kept, and so is
+/// what holds of every other process; a process that begins holds too; and the one-kernel machine does the same.
+pub fn every_trap_of_one_process()
+    ensures own { (p workers : ℕ) (t : Tid) (h : Here) → may_here (Trap t) h ≡ true → (thread_of h.node t.0).process ≡ p → NodeHolds h.node → RingsHold h
+        → OfProcess p h.side h.node workers (ring_of h) → OfProcess p (after_here (Trap t) p h).side (after_here (Trap t) p h).node workers (ring_of h) }
+    ensures others { (p q workers : ℕ) (t : Tid) (h : Here) (side : Side) (ring : ℕ → ℕ) → may_here (Trap t) h ≡ true → (thread_of h.node t.0).process ≡ p → NodeHolds h.node
+        → p ≢ q → q ≢ h.node.next_number → OfProcess q side h.node workers ring → OfProcess q side (after_here (Trap t) p h).node workers ring }
+    ensures simulated { (p workers : ℕ) (t : Tid) (h : Here) (tables : ℕ → Reads Row) → may_here (Trap t) h ≡ true → (thread_of h.node t.0).process ≡ p → NodeHolds h.node
+        → OfProcess p h.side h.node workers (ring_of h) → FramesOf tables p (space_here h) → h.born ≡ None → Simulated (Trap t) p h }
+{}
+
+/// Answer with a row and without one: coherence is kept, and the image is a run of the one-kernel machine.
+pub fn every_answer()
+    ensures with_row { (pair : Pair) (q : Pid) (w : ℕ) (row : Row) → Coherent pair → may pair (Answer q w) ≡ true → answer_to (side_of pair q.0) w ≡ Some row
+        → Coherent (after pair (Answer q w)) × Runs (one pair) (image pair (Answer q w)) (one (after pair (Answer q w))) }
+    ensures empty { (pair : Pair) (q : Pid) (w : ℕ) → Coherent pair → may pair (Answer q w) ≡ true → answer_to (side_of pair q.0) w ≡ None
+        → Coherent (after pair (Answer q w)) × Runs (one pair) (image pair (Answer q w)) (one (after pair (Answer q w))) }
+{}
+
+/// Reap, on the process that ends and for every other one.
+pub fn every_reap_of_one_process()
+    ensures own { (p workers : ℕ) (q : Pid) (h : Here) (ring : ℕ → ℕ) → may_here (Reap q) h ≡ true → q.0 ≡ p
+        → OfProcess p h.side h.node workers ring → OfProcess p (after_here (Reap q) p h).side (after_here (Reap q) p h).node workers ring }
+    ensures others { (p other workers : ℕ) (q : Pid) (h : Here) (side : Side) (ring : ℕ → ℕ) → may_here (Reap q) h ≡ true → q.0 ≡ p
+        → p ≢ other → OfProcess other side h.node workers ring → OfProcess other side (after_here (Reap q) p h).node workers ring }
+    ensures simulated { (p workers : ℕ) (q : Pid) (h : Here) (ring : ℕ → ℕ) → may_here (Reap q) h ≡ true → q.0 ≡ p
+        → OfProcess p h.side h.node workers ring → h.born ≡ None → Simulated (Reap q) p h }
+{}
