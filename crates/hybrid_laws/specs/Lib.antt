@@ -116,3 +116,8 @@ pub mod WholeIntakeReply
 pub mod Lasting
 pub mod Still
 pub mod NoStall
+pub mod CallsGo
+pub mod CallsTaken
+pub mod CallsMade
+pub mod WholeCalls
+pub mod JournalLaws
