@@ -127,3 +127,8 @@ pub mod Lasting
 pub mod Still
 pub mod NoStall
 pub mod WholeTrapChanges
+pub mod CallsGo
+pub mod CallsTaken
+pub mod CallsMade
+pub mod JournalLaws
+pub mod CallsLast

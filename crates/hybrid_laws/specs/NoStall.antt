@@ -196,7 +196,7 @@ module _ (pair : Pair) (c : Coherent pair) (l : Lasting pair) (over : IsOver pai
           let of-it : of t ≡ p = ap (λ (o : Option Thread). (unwrap_or o no_thread).process) e ∙ own in
           not-asked pair c l over p (dying-there pair.node p d) t y.0 of-it y.1 (or-right (is_deliverable pair.node t) (is_dying pair.node (of t)) (ap (is_dying pair.node) of-it ∙ d))
 
-  no-dying : (p : ℕ) → is_dying pair.node p ≡ true → ⊥
+  pub no-dying : (p : ℕ) → is_dying pair.node p ≡ true → ⊥
   no-dying p d = ends p d (none-called p d)
 
   no-change : (t : ℕ) → may_change pair.node t ≡ true → ⊥
