@@ -136,3 +136,5 @@ pub mod BootFiles
 pub mod BootPages
 pub mod BootSides
 pub mod BootCoherent
+pub mod HandedOut
+pub mod FreshFrames
