@@ -113,6 +113,7 @@ pub mod WholeRunSteps
 pub mod WholeBeginVm
 pub mod WholeAnswerRow
 pub mod WholeAnswerEmpty
+pub mod Freeing
 pub mod WholeIntakeFault
 pub mod WholeIntakeReply
 pub mod EffectCounts
