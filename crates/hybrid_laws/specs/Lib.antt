@@ -114,6 +114,7 @@ pub mod WholeBeginVm
 pub mod WholeAnswerRow
 pub mod WholeAnswerEmpty
 pub mod Freeing
+pub mod EndedNode
 pub mod WholeIntakeFault
 pub mod WholeIntakeReply
 pub mod EffectCounts
