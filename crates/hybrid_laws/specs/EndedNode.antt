@@ -29,11 +29,11 @@ module _ (node : Node) (p : ℕ) (s : Sound node) where
   abbrev ends : Process → Process
   ends x = record x { life = life_ended x.life }
 
-  abbrev pub closed : Node
-  closed = change_process p ends (record node { threads = collect keeps-row node.threads; sleepers = filter stays node.sleepers; files = close_all p node.files })
+  abbrev pub node-closed : Node
+  node-closed = change_process p ends (record node { threads = collect keeps-row node.threads; sleepers = filter stays node.sleepers; files = close_all p node.files })
 
   -- a thread that is left was there, in another process
-  row-left : (u : ℕ) (y : Thread) → at closed.threads u ≡ Some y → (at node.threads u ≡ Some y) × ((y.process == p) ≡ false)
+  row-left : (u : ℕ) (y : Thread) → at node-closed.threads u ≡ Some y → (at node.threads u ≡ Some y) × ((y.process == p) ≡ false)
   row-left u y e = go (at node.threads u) refl (sym (at-collect keeps-row node.threads u) ∙ e)
     where
       by : (x : Thread) → at node.threads u ≡ Some x → (b : Bool) → (x.process == p) ≡ b → cond b None (Some x) ≡ Some y → (at node.threads u ≡ Some y) × ((y.process == p) ≡ false)
@@ -43,13 +43,13 @@ module _ (node : Node) (p : ℕ) (s : Sound node) where
       go None f k = absurd (grind (arith, k))
       go (Some x) f k = by x f (x.process == p) refl k
 
-  row-kept : (u : ℕ) (x : Thread) → at node.threads u ≡ Some x → (x.process == p) ≡ false → at closed.threads u ≡ Some x
+  row-kept : (u : ℕ) (x : Thread) → at node.threads u ≡ Some x → (x.process == p) ≡ false → at node-closed.threads u ≡ Some x
   row-kept u x e n = at-collect keeps-row node.threads u ∙ ap (λ (o : Option Thread). and_then o (keeps-row u)) e ∙ ap (λ (b : Bool). cond b None (Some x)) n
 
-  process-other : (q : ℕ) → (q == p) ≡ false → at closed.processes q ≡ at node.processes q
+  process-other : (q : ℕ) → (q == p) ≡ false → at node-closed.processes q ≡ at node.processes q
   process-other q n = at-change node.processes p ends q ∙ ap (λ (b : Bool). cond b (option_map ends (at node.processes p)) (at node.processes q)) n
 
-  pub closed-made : (x : ℕ) → has_process closed x ≡ has_process node x
+  pub closed-made : (x : ℕ) → has_process node-closed x ≡ has_process node x
   closed-made x = ap is_some (at-change node.processes p ends x) ∙ go (x == p) refl
     where
       mapped : (o : Option Process) → is_some (option_map ends o) ≡ is_some o
@@ -59,14 +59,14 @@ module _ (node : Node) (p : ℕ) (s : Sound node) where
       go true f = let g : x ≡ p = grind (arith, nat_tests, f) in mapped (at node.processes p) ∙ ap (has_process node) (sym g)
       go false f = refl
 
-  pub closed-ended : (q : ℕ) → (q == p) ≡ false → is_ended closed q ≡ is_ended node q
+  pub closed-ended : (q : ℕ) → (q == p) ≡ false → is_ended node-closed q ≡ is_ended node q
   closed-ended q n = ap (λ (o : Option Process). has_ended (unwrap_or o no_process).life) (process-other q n)
 
-  there-other : (q : ℕ) → (q == p) ≡ false → is_there closed q ≡ is_there node q
+  there-other : (q : ℕ) → (q == p) ≡ false → is_there node-closed q ≡ is_there node q
   there-other q n = λ i. closed-made q i && not (closed-ended q n i)
 
-  pub closed-instructions : instructions_in_all closed ≡ instructions_in_all node
-  closed-instructions = total-same (λ (z : Process). z.instructions) closed.processes node.processes (λ x. ap (counted_in (λ (z : Process). z.instructions)) (at-change node.processes p ends x) ∙ go x (x == p) refl)
+  pub closed-instructions : instructions_in_all node-closed ≡ instructions_in_all node
+  closed-instructions = total-same (λ (z : Process). z.instructions) node-closed.processes node.processes (λ x. ap (counted_in (λ (z : Process). z.instructions)) (at-change node.processes p ends x) ∙ go x (x == p) refl)
     where
       mapped : (o : Option Process) → counted_in (λ (z : Process). z.instructions) (option_map ends o) ≡ counted_in (λ (z : Process). z.instructions) o
       mapped None = refl
@@ -75,10 +75,10 @@ module _ (node : Node) (p : ℕ) (s : Sound node) where
       go x true f = let g : x ≡ p = grind (arith, nat_tests, f) in mapped (at node.processes p) ∙ ap (λ (j : ℕ). counted_in (λ (z : Process). z.instructions) (at node.processes j)) (sym g)
       go x false f = refl
 
-  pub closed-stops : total stops closed.threads ≤ total stops node.threads
-  closed-stops = total-le stops closed.threads node.threads (λ u. go u (at closed.threads u) refl)
+  pub closed-stops : total stops node-closed.threads ≤ total stops node.threads
+  closed-stops = total-le stops node-closed.threads node.threads (λ u. go u (at node-closed.threads u) refl)
     where
-      go : (u : ℕ) (o : Option Thread) → at closed.threads u ≡ o → counted_in stops o ≤ counted_in stops (at node.threads u)
+      go : (u : ℕ) (o : Option Thread) → at node-closed.threads u ≡ o → counted_in stops o ≤ counted_in stops (at node.threads u)
       go u None e = omega arith
       go u (Some y) e = let w = (row-left u y e).0 in let z = ap (counted_in stops) w in omega (arith, z)
 
@@ -86,7 +86,7 @@ module _ (node : Node) (p : ℕ) (s : Sound node) where
   abbrev WasMade : ℕ → Process → Type 0
   WasMade q y = (x : Process) × (at node.processes q ≡ Some x) × (x.heap_base ≡ y.heap_base) × (x.program_break ≡ y.program_break)
 
-  was-made : (q : ℕ) (y : Process) → at closed.processes q ≡ Some y → WasMade q y
+  was-made : (q : ℕ) (y : Process) → at node-closed.processes q ≡ Some y → WasMade q y
   was-made q y e = go (q == p) refl (sym (at-change node.processes p ends q) ∙ e)
     where
       own : (q ≡ p) → (o : Option Process) → at node.processes p ≡ o → option_map ends o ≡ Some y → WasMade q y
@@ -97,20 +97,20 @@ module _ (node : Node) (p : ℕ) (s : Sound node) where
       go false n k = (y, k, refl, refl)
 
   -- sleepers of other processes sleep on
-  sleepers : SleepersAre closed
-  sleepers = Each-map (λ (x : Sleeper). SleeperIs node x × (stays x ≡ true)) (SleeperIs closed) (filter stays node.sleepers)
+  sleepers : SleepersAre node-closed
+  sleepers = Each-map (λ (x : Sleeper). SleeperIs node x × (stays x ≡ true)) (SleeperIs node-closed) (filter stays node.sleepers)
       (λ x h. (let n = not-true (x.process == p) h.1 in let w = h.0 in (w.0, row-kept x.thread w.0 w.1 (ap (λ (j : ℕ). j == p) w.3 ∙ n), w.2, w.3)))
       (Each-both (SleeperIs node) (λ (x : Sleeper). stays x ≡ true) (filter stays node.sleepers) (Each-filter (SleeperIs node) stays node.sleepers (sleepers-are node s.sleeping)) (each-passes stays node.sleepers))
 
-  once : SleepOnce closed
+  once : SleepOnce node-closed
   once u = let a = tally-filter (λ (x : Sleeper). if_same x.thread u) stays node.sleepers in let b = sleep-once node s.sleeping u in omega (arith, a, b)
 
-  pub closed-sound : Sound closed
+  pub closed-sound : Sound node-closed
   closed-sound = record {
     threads_below = λ u y e. s.threads_below u y (row-left u y e).0;
     threads_there = λ u y e. (let w = row-left u y e in there-other y.process w.1 ∙ s.threads_there u y w.0);
     processes_below = λ q y e. (let w = was-made q y e in s.processes_below q w.0 w.1);
-    sleeping = sleeping-of closed sleepers once;
+    sleeping = sleeping-of node-closed sleepers once;
     places = record {
       below = λ u y e. s.places.below u y (row-left u y e).0;
       apart = λ t u x y e f a b. s.places.apart t u x y (row-left t x e).0 (row-left u y f).0 a b };
@@ -118,15 +118,15 @@ module _ (node : Node) (p : ℕ) (s : Sound node) where
       record { aligned = ap (λ (n : ℕ). n % page_size) (sym w.2) ∙ h.aligned; below = (let l = h.below in let a = w.2 in let b = w.3 in omega (arith, l, a, b)) }) }
 
   -- telling the parent
-  pub told : NodeSteps closed (process_ended p node)
+  pub told : NodeSteps node-closed (process_ended p node)
   unfolding process_ended
-  told = by (is_living closed (process_of node p).parent) (ignores (process_of closed (process_of node p).parent) 17)
+  told = by (is_living node-closed (process_of node p).parent) (ignores (process_of node-closed (process_of node p).parent) 17)
     where
-      same : NodeSteps closed closed
-      same = steps-of closed closed closed-sound (goes-same closed) closed-sound.sleeping
-      by : (b c : Bool) → NodeSteps closed (cond b (cond c closed (change_process (process_of node p).parent (λ (x : Process). record x { pending = with_signal 17 x.pending }) closed)) closed)
+      same : NodeSteps node-closed node-closed
+      same = steps-of node-closed node-closed closed-sound (goes-same node-closed) closed-sound.sleeping
+      by : (b c : Bool) → NodeSteps node-closed (cond b (cond c node-closed (change_process (process_of node p).parent (λ (x : Process). record x { pending = with_signal 17 x.pending }) node-closed)) node-closed)
       by false c = same
       by true true = same
-      by true false = steps-of closed (change_process (process_of node p).parent (λ (x : Process). record x { pending = with_signal 17 x.pending }) closed) closed-sound
-        (goes-process closed (process_of node p).parent (λ (x : Process). record x { pending = with_signal 17 x.pending }) (record { heap = λ x. refl; limit = λ x. refl; instructions = λ x. refl; ended = λ x. refl }))
+      by true false = steps-of node-closed (change_process (process_of node p).parent (λ (x : Process). record x { pending = with_signal 17 x.pending }) node-closed) closed-sound
+        (goes-process node-closed (process_of node p).parent (λ (x : Process). record x { pending = with_signal 17 x.pending }) (record { heap = λ x. refl; limit = λ x. refl; instructions = λ x. refl; ended = λ x. refl }))
         (record { asleep = closed-sound.sleeping.asleep; once = closed-sound.sleeping.once })

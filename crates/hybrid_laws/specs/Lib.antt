@@ -115,6 +115,7 @@ pub mod WholeAnswerRow
 pub mod WholeAnswerEmpty
 pub mod Freeing
 pub mod EndedNode
+pub mod WholeReap
 pub mod WholeIntakeFault
 pub mod WholeIntakeReply
 pub mod EffectCounts
