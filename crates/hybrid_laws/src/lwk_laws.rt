@@ -25,7 +25,7 @@ ghost use Rattle.mck_word.specs.declared.Pid.{Pid};
 ghost use Rattle.mck_word.specs.declared.Tid.{Tid};
 ghost use Rattle.std.specs.Prelude.{◌≡◌, ◌≢◌, true, None, Some, length, ℕ};
 
-/// Run, Deliver, BeginVm, Interrupt, Wait and Script, where they may happen in a coherent state.
+/// Run, Deliver, Answer, BeginVm, Interrupt, Wait, Reap and Script, where they may happen in a coherent state.
 pub fn every_quiet_lwk_event()
     ensures { (pair : Pair) (e : Event) → Coherent pair → is_quiet_lwk e ≡ true → may pair e ≡ true → Holds pair e }
 {}
