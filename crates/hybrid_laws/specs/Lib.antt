@@ -141,3 +141,4 @@ pub mod BootSides
 pub mod BootCoherent
 pub mod HandedOut
 pub mod FreshFrames
+pub mod HandsOutLwk
