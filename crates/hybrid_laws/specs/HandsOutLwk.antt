@@ -38,7 +38,7 @@ use Rattle.std.proofs.lemmas.Bool.Decides.{nat_tests}
 use Rattle.std.specs.Prelude.{Bool, List, None, Option, Some, cond, false, if◌then◌else◌, length, true, unwrap_or, ℕ, ℤ, ◌&&◌, ◌+◌, ◌<◌, ◌==◌, ◌∷◌, ◌≡◌, ◌≤◌}
 
 -- the tables after one process is put back
-tables-put : (pair : Pair) (p : ℕ) (h : Here) → h.born ≡ None → (x i : ℕ) → table_of (put_here pair p h) x i ≡ with_table (table_of pair) p (at h.side.lwk.table) x i
+pub tables-put : (pair : Pair) (p : ℕ) (h : Here) → h.born ≡ None → (x i : ℕ) → table_of (put_here pair p h) x i ≡ with_table (table_of pair) p (at h.side.lwk.table) x i
 tables-put pair p h none x i = ap (λ (o : Option (ℕ × Side)). at (unwrap_or (at (with_born (put pair.sides p h.side) o) x) (new_side 0)).lwk.table i) none
     ∙ ap (λ (o : Option Side). at (unwrap_or o (new_side 0)).lwk.table i) (at-put pair.sides p h.side x) ∙ go (x == p)
   where
@@ -46,7 +46,7 @@ tables-put pair p h none x i = ap (λ (o : Option (ℕ × Side)). at (unwrap_or 
     go true = refl
     go false = refl
 
-in-range : (r : PageRange) (i : ℕ) → r.lo ≤ i → i < r.lo + pages_count r → in_range r i ≡ true
+pub in-range : (r : PageRange) (i : ℕ) → r.lo ≤ i → i < r.lo + pages_count r → in_range r i ≡ true
 in-range r i l m = let u : i < r.hi = omega (arith, l, m) in grind (arith, nat_tests, l, u)
 
 -- ---- Intake of an Ack

@@ -142,3 +142,4 @@ pub mod BootCoherent
 pub mod HandedOut
 pub mod FreshFrames
 pub mod HandsOutLwk
+pub mod HandsOutTrap
