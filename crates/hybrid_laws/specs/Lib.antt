@@ -143,3 +143,4 @@ pub mod HandedOut
 pub mod FreshFrames
 pub mod HandsOutLwk
 pub mod HandsOutTrap
+pub mod LwkEvents

@@ -1,19 +1,25 @@
 //! The laws of whole states and journals.
 
-ghost use Rattle.hybrid_laws.specs.JournalLaws.{EachLwkEvent, Follows};
+ghost use Rattle.hybrid_laws.specs.JournalLaws.{Follows};
 ghost use Rattle.hybrid_laws.specs.Lasting.{Lasting};
+ghost use Rattle.hybrid_laws.specs.LinuxHolds.{is_of_linux};
+ghost use Rattle.hybrid_laws.specs.LwkEvents.{EachFork};
 ghost use Rattle.hybrid_model.specs.Boot.{boot, shortage};
-ghost use Rattle.hybrid_model.specs.Claims.{Headline, NoAddedStall};
+ghost use Rattle.hybrid_model.specs.Claims.{HandsOutFresh, Headline, Holds, NoAddedStall};
+ghost use Rattle.hybrid_model.specs.Events.{may};
 ghost use Rattle.hybrid_model.specs.Globals.{Coherent};
 ghost use Rattle.hybrid_model.specs.Journals.{IsLegal, may_all};
 ghost use Rattle.hybrid_model.specs.Pairs.{Pair};
 ghost use Rattle.hybrid_model.specs.Shown.{one};
 ghost use Rattle.hybrid_model.specs.declared.events.Event.{Event};
+ghost use Rattle.hybrid_model.specs.declared.events.Event.TheVariants.{Intake, Trap};
 ghost use Rattle.job_model.specs.Prepared.{IsPrepared};
 ghost use Rattle.job_model.specs.declared.image.Image.{Image};
 ghost use Rattle.job_model.specs.declared.job.Job.{Job};
 ghost use Rattle.kernel_model.specs.OneKernel as One;
-ghost use Rattle.std.specs.Prelude.{◌≡◌, None, true, List};
+ghost use Rattle.mck_word.specs.declared.Pid.{Pid};
+ghost use Rattle.mck_word.specs.declared.Tid.{Tid};
+ghost use Rattle.std.specs.Prelude.{◌≡◌, None, false, true, List};
 
 /// The boot of a prepared job for which the frames suffice: it is coherent, and shows the boot of the one-kernel machine.
 pub fn every_boot()
@@ -28,13 +34,24 @@ pub fn no_added_stall()
     ensures { (pair : Pair) → Coherent pair → Lasting pair → NoAddedStall pair }
 {}
 
-/// Events one after another from a coherent state, if each event of the lightweight kernel keeps its laws: every state is coherent, the
-/// images together are a run of the one-kernel machine, each event keeps its laws, and a number is gone once its one reply is posted.
-pub fn every_journal_follows()
-    ensures { EachLwkEvent → (journal : List Event) (pair : Pair) → Coherent pair → Lasting pair → may_all pair journal ≡ true → Follows pair journal }
+/// Intake, whatever message it takes, and the frames that a trap hands out, to a change made at once or to a process that begins.
+pub fn every_intake_and_handed_frame()
+    ensures intake { (pair : Pair) (q : Pid) → Coherent pair → may pair (Intake q) ≡ true → Holds pair (Intake q) }
+    ensures handed { (pair : Pair) (t : Tid) → Coherent pair → may pair (Trap t) ≡ true → HandsOutFresh pair (Trap t) }
 {}
 
-/// The whole claim of every legal journal of a prepared job, if each event of the lightweight kernel keeps its laws.
+/// Each event of the lightweight kernel, if a trap that makes a process keeps coherence and is a run of the one-kernel machine.
+pub fn every_lwk_event_with_forks()
+    ensures { EachFork → (pair : Pair) (e : Event) → Coherent pair → is_of_linux e ≡ false → may pair e ≡ true → Holds pair e }
+{}
+
+/// Events one after another from a coherent state, if a trap that makes a process keeps its laws: every state is coherent, the
+/// images together are a run of the one-kernel machine, each event keeps its laws, and a number is gone once its one reply is posted.
+pub fn every_journal_follows()
+    ensures { EachFork → (journal : List Event) (pair : Pair) → Coherent pair → Lasting pair → may_all pair journal ≡ true → Follows pair journal }
+{}
+
+/// The whole claim of every legal journal of a prepared job, if a trap that makes a process keeps its laws.
 pub fn every_legal_journal()
-    ensures { EachLwkEvent → (job : Job) (imgs : List Image) (journal : List Event) → IsPrepared job imgs → IsLegal job imgs journal → Headline job imgs journal }
+    ensures { EachFork → (job : Job) (imgs : List Image) (journal : List Event) → IsPrepared job imgs → IsLegal job imgs journal → Headline job imgs journal }
 {}

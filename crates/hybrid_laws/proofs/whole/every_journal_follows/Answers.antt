@@ -1,5 +1,6 @@
 use Rattle.hybrid_laws.specs.JournalLaws.{each-event, follows}
+use Rattle.hybrid_laws.specs.LwkEvents.{each-lwk}
 use Rattle.hybrid_laws.proofs.whole.every_journal_follows.Goals as goal
 
 pub returns : goal.returns
-returns c = λ lwk journal pair coherent lasting legal. follows (each-event lwk) journal pair coherent lasting legal
+returns c = λ fork journal pair coherent lasting legal. follows (each-event (each-lwk fork)) journal pair coherent lasting legal
