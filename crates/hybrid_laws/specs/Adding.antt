@@ -59,7 +59,7 @@ copies-first : (f g : ℕ) (free : List ℕ) → copies f (g ∷ free) ≡ 0 →
 copies-first f g free e = omega (arith, e)
 
 -- in a list that rises, the first stands once
-rising-above : (f : ℕ) (free : List ℕ) → Rising (f ∷ free) → copies f free ≡ 0
+pub rising-above : (f : ℕ) (free : List ℕ) → Rising (f ∷ free) → copies f free ≡ 0
 rising-above f [] h = refl
 rising-above f (g ∷ free) h = let a = h.0 in let b = above f g free a h.1 in grind (arith, nat_tests, a, b)
   where
@@ -67,7 +67,7 @@ rising-above f (g ∷ free) h = let a = h.0 in let b = above f g free a h.1 in g
     above f g [] l h = refl
     above f g (k ∷ free) l h = let a = h.0 in let b = above f k free (omega (arith, l, a)) h.1 in grind (arith, nat_tests, l, a, b)
 
-rising-rest : (f : ℕ) (free : List ℕ) → Rising (f ∷ free) → Rising free
+pub rising-rest : (f : ℕ) (free : List ℕ) → Rising (f ∷ free) → Rising free
 rising-rest f [] h = tt
 rising-rest f (g ∷ free) h = h.1
 

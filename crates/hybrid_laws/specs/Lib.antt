@@ -113,6 +113,9 @@ pub mod WholeRunSteps
 pub mod WholeBeginVm
 pub mod WholeAnswerRow
 pub mod WholeAnswerEmpty
+pub mod Freeing
+pub mod EndedNode
+pub mod WholeReap
 pub mod WholeIntakeFault
 pub mod WholeIntakeReply
 pub mod EffectCounts

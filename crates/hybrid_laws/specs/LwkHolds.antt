@@ -1,14 +1,17 @@
--- Events of the lightweight kernel that leave every table as it is, whole: coherence, simulation, no frame handed out.
+-- Events of the lightweight kernel that give no page a frame, whole: coherence, simulation, no frame handed out.
 use Rattle.hybrid_model.specs.declared.events.Event.TheVariants as Events
 use Rattle.hybrid_laws.specs.IntakeEvent.{by-message}
 use Rattle.hybrid_laws.specs.LinuxHolds.{none-handed, tables-stay}
 use Rattle.hybrid_laws.specs.Tests.{both}
+use Rattle.hybrid_laws.specs.WholeAnswerEmpty.{coherent_answer_empty, simulated_pair_answer_empty}
+use Rattle.hybrid_laws.specs.WholeAnswerRow.{coherent_answer_row, simulated_pair_answer_row}
 use Rattle.hybrid_laws.specs.WholeBeginVm.{coherent_begin_vm, simulated_pair_begin_vm}
 use Rattle.hybrid_laws.specs.WholeDeliver.{coherent_deliver, simulated_pair_deliver}
 use Rattle.hybrid_laws.specs.WholeIntakeAck.{coherent_intake_ack, simulated_pair_ack}
 use Rattle.hybrid_laws.specs.WholeIntakeFault.{coherent_intake_fault, simulated_pair_fault}
 use Rattle.hybrid_laws.specs.WholeIntakeReply.{coherent_intake_reply, simulated_pair_reply}
 use Rattle.hybrid_laws.specs.WholeInterrupt.{coherent_interrupt, simulated_pair_interrupt}
+use Rattle.hybrid_laws.specs.WholeReap.{coherent_reap, simulated_pair_reap}
 use Rattle.hybrid_laws.specs.WholeRun.{coherent_run}
 use Rattle.hybrid_laws.specs.WholeRunSteps.{simulated_pair_run}
 use Rattle.hybrid_laws.specs.WholeScript.{coherent_script, simulated_pair_script}
@@ -16,30 +19,34 @@ use Rattle.hybrid_laws.specs.WholeSteps.{SimulatedPair}
 use Rattle.hybrid_laws.specs.WholeWait.{coherent_wait, simulated_pair_wait}
 use Rattle.hybrid_model.specs.Claims.{HandsOutFresh, Holds}
 use Rattle.hybrid_model.specs.Events.{after, after_here, may, may_here, process_of_event}
-use Rattle.hybrid_model.specs.Globals.{Coherent}
-use Rattle.hybrid_model.specs.Lwk.{after_deliver, begin_round, begin_vm_of, interrupt_as, is_calling, post_interrupt, run}
+use Rattle.hybrid_model.specs.Globals.{Coherent, table_of}
+use Rattle.hybrid_model.specs.Lwk.{after_deliver, begin_round, begin_vm_of, interrupt_as, is_calling, post_interrupt, run, answer_to, emptied, post_answer, reap}
 use Rattle.hybrid_model.specs.Pairs.{Here, Pair, here, side_of}
+use Rattle.hybrid_model.specs.Sides.{Row, Side, new_side}
 use Rattle.hybrid_model.specs.declared.events.Event.{Event}
 use Rattle.ikc_ring.specs.declared.Msg.{Msg}
+use Rattle.isa_model.specs.Table.{row}
 use Rattle.kernel_model.specs.Nodes.{change_in, is_there, thread_of}
 use Rattle.kernel_model.specs.declared.Change.{Change}
+use Rattle.mck_word.specs.MapLaws.{at-none, at-put}
+use Rattle.mck_word.specs.Maps.{at}
 use Rattle.mck_word.specs.declared.Pid.{Pid}
 use Rattle.mck_word.specs.declared.Tid.{Tid}
-use Rattle.std.proofs.Common.{ap, arith, refl}
+use Rattle.std.proofs.Common.{ap, arith, refl, sym, ◌∙◌}
 use Rattle.std.proofs.lemmas.Bool.Decides.{nat_tests}
-use Rattle.std.specs.Prelude.{Bool, List, None, Option, Some, [], false, length, true, ℕ, ◌≡◌}
+use Rattle.std.specs.Prelude.{Bool, List, None, Option, Some, [], false, length, true, ℕ, ◌≡◌, cond, unwrap_or, ◌==◌}
 
--- Run, Deliver, BeginVm, Interrupt, Wait and Script
+-- Run, Deliver, Answer, BeginVm, Interrupt, Wait, Reap and Script
 abbrev pub is_quiet_lwk : Event → Bool
 is_quiet_lwk (Events.Run core t n) = true
 is_quiet_lwk (Events.Trap t) = false
 is_quiet_lwk (Events.Deliver t) = true
 is_quiet_lwk (Events.Intake q) = false
-is_quiet_lwk (Events.Answer q w) = false
+is_quiet_lwk (Events.Answer q w) = true
 is_quiet_lwk (Events.BeginVm t) = true
 is_quiet_lwk (Events.Interrupt t) = true
 is_quiet_lwk (Events.Wait t) = true
-is_quiet_lwk (Events.Reap q) = false
+is_quiet_lwk (Events.Reap q) = true
 is_quiet_lwk (Events.Script i) = true
 is_quiet_lwk (Events.Fetch q r) = false
 is_quiet_lwk (Events.Assign q w) = false
@@ -75,6 +82,23 @@ module _ (pair : Pair) (c : Coherent pair) where
   unfolding after_deliver
   deliver-handed t = handed (Events.Deliver t) refl refl
 
+  answer-handed : (q : Pid) (w : ℕ) → HandsOutFresh pair (Events.Answer q w)
+  unfolding post_answer
+  answer-handed q w = handed (Events.Answer q w) refl refl
+
+  answered : (q : Pid) (w : ℕ) → may pair (Events.Answer q w) ≡ true → (o : Option Row) → answer_to (side_of pair q.0) w ≡ o → Coherent (after pair (Events.Answer q w)) × SimulatedPair pair (Events.Answer q w)
+  answered q w m (Some row) f = (coherent_answer_row pair c q w m row f, simulated_pair_answer_row pair c q w m row f)
+  answered q w m None f = (coherent_answer_empty pair c q w m f, simulated_pair_answer_empty pair c q w m f)
+
+  -- an event that only takes rows away hands out nothing
+  reap-handed : (q : Pid) → HandsOutFresh pair (Events.Reap q)
+  unfolding reap
+  reap-handed q x i f h = absurd (h.new h.row (go (x == q.0) (sym (ap (λ (o : Option Side). at (unwrap_or o (new_side 0)).lwk.table i) (at-put pair.sides q.0 (emptied (side_of pair q.0)) x)) ∙ h.there)) h.frame)
+    where
+      go : (b : Bool) → at (unwrap_or (cond b (Some (emptied (side_of pair q.0))) (at pair.sides x)) (new_side 0)).lwk.table i ≡ Some h.row → table_of pair x i ≡ Some h.row
+      go false e = e
+      go true e = absurd (let a = sym (at-none {V = Row} i) ∙ e in grind (arith, a))
+
   pub holds_quiet_lwk : (e : Event) → is_quiet_lwk e ≡ true → may pair e ≡ true → Holds pair e
   holds_quiet_lwk (Events.Run core t n) l m = record { coherent = coherent_run pair c core n t m; simulated = simulated_pair_run pair c core n t m; copies = tt; handed_out = run-handed core n t }
   holds_quiet_lwk (Events.Deliver t) l m = record { coherent = coherent_deliver pair c t m; simulated = simulated_pair_deliver pair c t m; copies = tt; handed_out = deliver-handed t }
@@ -88,8 +112,8 @@ module _ (pair : Pair) (c : Coherent pair) where
   holds_quiet_lwk (Events.Script i) l m = record { coherent = coherent_script pair c i m; simulated = simulated_pair_script pair c i m; copies = tt; handed_out = handed (Events.Script i) refl refl }
   holds_quiet_lwk (Events.Trap t) l m = absurd (grind (arith, l))
   holds_quiet_lwk (Events.Intake q) l m = absurd (grind (arith, l))
-  holds_quiet_lwk (Events.Answer q w) l m = absurd (grind (arith, l))
-  holds_quiet_lwk (Events.Reap q) l m = absurd (grind (arith, l))
+  holds_quiet_lwk (Events.Answer q w) l m = (let b = answered q w m (answer_to (side_of pair q.0) w) refl in record { coherent = b.0; simulated = b.1; copies = tt; handed_out = answer-handed q w })
+  holds_quiet_lwk (Events.Reap q) l m = record { coherent = coherent_reap pair c q m; simulated = simulated_pair_reap pair c q m; copies = tt; handed_out = reap-handed q }
   holds_quiet_lwk (Events.Fetch q r) l m = absurd (grind (arith, l))
   holds_quiet_lwk (Events.Assign q w) l m = absurd (grind (arith, l))
   holds_quiet_lwk (Events.Miss q w) l m = absurd (grind (arith, l))

@@ -25,7 +25,7 @@ ghost use Rattle.mck_word.specs.declared.Pid.{Pid};
 ghost use Rattle.mck_word.specs.declared.Tid.{Tid};
 ghost use Rattle.std.specs.Prelude.{◌≡◌, ◌≢◌, true, None, Some, length, ℕ};
 
-/// Run, Deliver, BeginVm, Interrupt, Wait and Script, where they may happen in a coherent state.
+/// Run, Deliver, Answer, BeginVm, Interrupt, Wait, Reap and Script, where they may happen in a coherent state.
 pub fn every_quiet_lwk_event()
     ensures { (pair : Pair) (e : Event) → Coherent pair → is_quiet_lwk e ≡ true → may pair e ≡ true → Holds pair e }
 {}
@@ -69,12 +69,7 @@ pub fn every_answer()
         → Coherent (after pair (Answer q w)) × Runs (one pair) (image pair (Answer q w)) (one (after pair (Answer q w))) }
 {}
 
-/// Reap, on the process that ends and for every other one.
-pub fn every_reap_of_one_process()
-    ensures own { (p workers : ℕ) (q : Pid) (h : Here) (ring : ℕ → ℕ) → may_here (Reap q) h ≡ true → q.0 ≡ p
-        → OfProcess p h.side h.node workers ring → OfProcess p (after_here (Reap q) p h).side (after_here (Reap q) p h).node workers ring }
-    ensures others { (p other workers : ℕ) (q : Pid) (h : Here) (side : Side) (ring : ℕ → ℕ) → may_here (Reap q) h ≡ true → q.0 ≡ p
-        → p ≢ other → OfProcess other side h.node workers ring → OfProcess other side (after_here (Reap q) p h).node workers ring }
-    ensures simulated { (p workers : ℕ) (q : Pid) (h : Here) (ring : ℕ → ℕ) → may_here (Reap q) h ≡ true → q.0 ≡ p
-        → OfProcess p h.side h.node workers ring → h.born ≡ None → Simulated (Reap q) p h }
+/// Reap: coherence is kept, and the image is a run of the one-kernel machine.
+pub fn every_reap()
+    ensures { (pair : Pair) (q : Pid) → Coherent pair → may pair (Reap q) ≡ true → Coherent (after pair (Reap q)) × Runs (one pair) (image pair (Reap q)) (one (after pair (Reap q))) }
 {}
