@@ -135,3 +135,7 @@ pub mod CallsTaken
 pub mod CallsMade
 pub mod JournalLaws
 pub mod CallsLast
+pub mod BootFiles
+pub mod BootPages
+pub mod BootSides
+pub mod BootCoherent

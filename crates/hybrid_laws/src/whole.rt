@@ -1,15 +1,26 @@
 //! The laws of whole states and journals.
 
-ghost use Rattle.hybrid_laws.specs.JournalLaws.{Begins, EachLwkEvent, Follows};
+ghost use Rattle.hybrid_laws.specs.JournalLaws.{EachLwkEvent, Follows};
 ghost use Rattle.hybrid_laws.specs.Lasting.{Lasting};
+ghost use Rattle.hybrid_model.specs.Boot.{boot, shortage};
 ghost use Rattle.hybrid_model.specs.Claims.{Headline, NoAddedStall};
 ghost use Rattle.hybrid_model.specs.Globals.{Coherent};
 ghost use Rattle.hybrid_model.specs.Journals.{IsLegal, may_all};
 ghost use Rattle.hybrid_model.specs.Pairs.{Pair};
+ghost use Rattle.hybrid_model.specs.Shown.{one};
 ghost use Rattle.hybrid_model.specs.declared.events.Event.{Event};
+ghost use Rattle.job_model.specs.Prepared.{IsPrepared};
 ghost use Rattle.job_model.specs.declared.image.Image.{Image};
 ghost use Rattle.job_model.specs.declared.job.Job.{Job};
-ghost use Rattle.std.specs.Prelude.{◌≡◌, true, List};
+ghost use Rattle.kernel_model.specs.OneKernel as One;
+ghost use Rattle.std.specs.Prelude.{◌≡◌, None, true, List};
+
+/// The boot of a prepared job for which the frames suffice: it is coherent, and shows the boot of the one-kernel machine.
+pub fn every_boot()
+    ensures coherent { (job : Job) (imgs : List Image) → IsPrepared job imgs → shortage job imgs ≡ None → Coherent (boot job imgs) }
+    ensures shows { (job : Job) (imgs : List Image) → IsPrepared job imgs → shortage job imgs ≡ None → one (boot job imgs) ≡ One.boot job imgs }
+    ensures lasts { (job : Job) (imgs : List Image) → IsPrepared job imgs → shortage job imgs ≡ None → Lasting (boot job imgs) }
+{}
 
 /// Where no event of the two kernels may happen, no step of the one-kernel machine may: the division adds no stall. Beside coherence
 /// it takes that there is a worker and that marked calls are told of, which lasts from the boot on.
@@ -23,7 +34,7 @@ pub fn every_journal_follows()
     ensures { EachLwkEvent → (journal : List Event) (pair : Pair) → Coherent pair → Lasting pair → may_all pair journal ≡ true → Follows pair journal }
 {}
 
-/// The whole claim of a legal journal, if each event of the lightweight kernel keeps its laws and the boot begins well.
-pub fn every_begun_journal()
-    ensures { EachLwkEvent → (job : Job) (imgs : List Image) (journal : List Event) → Begins job imgs → IsLegal job imgs journal → Headline job imgs journal }
+/// The whole claim of every legal journal of a prepared job, if each event of the lightweight kernel keeps its laws.
+pub fn every_legal_journal()
+    ensures { EachLwkEvent → (job : Job) (imgs : List Image) (journal : List Event) → IsPrepared job imgs → IsLegal job imgs journal → Headline job imgs journal }
 {}
