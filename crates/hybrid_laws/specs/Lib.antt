@@ -115,6 +115,9 @@ pub mod WholeAnswerRow
 pub mod WholeAnswerEmpty
 pub mod Freeing
 pub mod EndedNode
+pub mod ForkNode
+pub mod WholeTrapForks
+pub mod WholeBorn
 pub mod WholeReap
 pub mod WholeIntakeFault
 pub mod WholeIntakeReply
