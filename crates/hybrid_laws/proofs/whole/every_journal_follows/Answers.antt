@@ -3,4 +3,4 @@ use Rattle.hybrid_laws.specs.LwkEvents.{each-lwk}
 use Rattle.hybrid_laws.proofs.whole.every_journal_follows.Goals as goal
 
 pub returns : goal.returns
-returns c = λ fork journal pair coherent lasting legal. follows (each-event (each-lwk fork)) journal pair coherent lasting legal
+returns c = λ journal pair coherent lasting legal. follows (each-event each-lwk) journal pair coherent lasting legal

@@ -4,4 +4,4 @@ use Rattle.hybrid_laws.specs.LwkEvents.{each-lwk}
 use Rattle.hybrid_laws.proofs.whole.every_legal_journal.Goals as goal
 
 pub returns : goal.returns
-returns c = λ fork job imgs journal prepared legal. headline (each-event (each-lwk fork)) job imgs journal (begins job imgs prepared legal.0) legal
+returns c = λ job imgs journal prepared legal. headline (each-event each-lwk) job imgs journal (begins job imgs prepared legal.0) legal

@@ -1,0 +1,5 @@
+use Rattle.hybrid_laws.specs.LwkEvents.{each-lwk}
+use Rattle.hybrid_laws.proofs.whole.every_lwk_event.Goals as goal
+
+pub returns : goal.returns
+returns c = λ pair e coherent lwk allowed. each-lwk pair e coherent lwk allowed
