@@ -23,7 +23,7 @@ use Rattle.kernel_model.specs.OneKernel.{Guest, by_guest, guest_own, guests_from
 use Rattle.kernel_model.specs.Pages.{zero_page}
 use Rattle.mck_flags.specs.declared.rights.Rights.{Rights}
 use Rattle.mck_word.specs.MapLaws.{at-collect, at-none, at-put}
-use Rattle.mck_word.specs.Maps.{Map, and_then, at, count, each, entries, no_rows, put, total}
+use Rattle.mck_word.specs.Maps.{Map, and_then, at, count, each, entries, no_rows, total}
 use Rattle.std.proofs.Common.{ap, arith, refl, subst, sym, ◌∙◌}
 use Rattle.std.proofs.lemmas.Bool.Decides.{nat_tests}
 use Rattle.std.proofs.lemmas.List.Sums.{sum_by-cons}

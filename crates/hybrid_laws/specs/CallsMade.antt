@@ -18,7 +18,7 @@ use Rattle.kernel_model.specs.Progress.{Progress}
 use Rattle.kernel_model.specs.Traps.{Begins, Changes, Done, Forks, Trapped, trap}
 use Rattle.kernel_model.specs.declared.Change.{Change}
 use Rattle.mck_word.specs.MapLaws.{at-cut, at-put}
-use Rattle.mck_word.specs.Maps.{Map, at, cut, put}
+use Rattle.mck_word.specs.Maps.{Map, at, cut}
 use Rattle.mck_word.specs.declared.Access.{Access}
 use Rattle.mck_word.specs.declared.Pid.{Pid}
 use Rattle.mck_word.specs.declared.Tid.{Tid}

@@ -5,7 +5,7 @@ use Rattle.hybrid_model.specs.Pairs.{Pair, side_of}
 use Rattle.hybrid_model.specs.Sides.{Caller, Side, service_of, state_of}
 use Rattle.hybrid_model.specs.Tallies.{as_number, sum_rings}
 use Rattle.mck_word.specs.Maps.{at}
-use Rattle.std.specs.Prelude.{Bool, Some, false, true, ℕ, ◌+◌, ◌≡◌, ◌≤◌}
+use Rattle.std.specs.Prelude.{Some, false, true, ℕ, ◌+◌, ◌≡◌, ◌≤◌}
 
 -- the Interrupt of request q is in a ring, or was fetched, or the request has ended
 abbrev pub IsTold : Side → ℕ → Type 0

@@ -36,8 +36,8 @@ pub fn every_lwk_event()
     ensures { (pair : Pair) (e : Event) → Coherent pair → is_of_linux e ≡ false → may pair e ≡ true → Holds pair e }
 {}
 
-/// Events one after another from a coherent state: every state is coherent, the
-/// images together are a run of the one-kernel machine, each event keeps its laws, and a number is gone once its one reply is posted.
+/// Events one after another from a coherent state: every state is coherent, the images together are a run of the one-kernel machine, each
+/// event keeps its laws, and a number is gone once its one reply is posted.
 pub fn every_journal_follows()
     ensures { (journal : List Event) (pair : Pair) → Coherent pair → Lasting pair → may_all pair journal ≡ true → Follows pair journal }
 {}
