@@ -115,6 +115,8 @@ pub mod WholeAnswerRow
 pub mod WholeAnswerEmpty
 pub mod Freeing
 pub mod EndedNode
+pub mod ForkNode
+pub mod WholeBorn
 pub mod WholeReap
 pub mod WholeIntakeFault
 pub mod WholeIntakeReply
