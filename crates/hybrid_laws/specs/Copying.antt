@@ -60,7 +60,7 @@ module _ (tables : ℕ → Reads Row) (p : ℕ) where
   unfolding add_page
   frames_lowest rights bytes i sp l c = frames_add tables p i rights sp l c
 
-  less-free : (rights : Rights) (bytes : List ℕ) (i n : ℕ) (sp : Space) → suc n ≤ length sp.free → n ≤ length (page_at_lowest rights bytes i sp).free
+  pub less-free : (rights : Rights) (bytes : List ℕ) (i n : ℕ) (sp : Space) → suc n ≤ length sp.free → n ≤ length (page_at_lowest rights bytes i sp).free
   less-free rights bytes i n sp l = go sp.free l
     where
       go : (o : List ℕ) → suc n ≤ length o → n ≤ length (rest_numbers o)

@@ -50,7 +50,7 @@ below-drop n i sp b = record {
         by-same true g = let s : r.0.0 ≡ f = grind (arith, nat_tests, g) in let m = b.rows i r e in omega (arith, s, m)
         by-same false g = b.free f (let c = copies-insert f r.0.0 sp.free in grind (arith, nat_tests, c, l, g))
 
-below-lowest : (n : ℕ) (rights : Rights) (bytes : List ℕ) (i : ℕ) (sp : Space) → 1 ≤ length sp.free → Below n sp → Below n (page_at_lowest rights bytes i sp)
+pub below-lowest : (n : ℕ) (rights : Rights) (bytes : List ℕ) (i : ℕ) (sp : Space) → 1 ≤ length sp.free → Below n sp → Below n (page_at_lowest rights bytes i sp)
 below-lowest n rights bytes i sp l b = record {
     rows = λ j r e. row j r (j == i) (sym (at-put sp.table i (record { 0 = first_number sp.free }, rights) j) ∙ e);
     free = λ f m. b.free f (more sp.free f m) }

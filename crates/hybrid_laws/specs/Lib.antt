@@ -116,6 +116,7 @@ pub mod WholeAnswerEmpty
 pub mod Freeing
 pub mod EndedNode
 pub mod ForkNode
+pub mod WholeTrapForks
 pub mod WholeBorn
 pub mod WholeReap
 pub mod WholeIntakeFault

@@ -94,16 +94,16 @@ module _ (p t : ℕ) (h : Here) (v : View) (child : ℕ) (stores : List Store) (
     abbrev stored : Memory
     stored = stored_all v.stores (memory_here h)
 
-    abbrev frames1 : Map (List ℕ)
+    abbrev pub frames1 : Map (List ℕ)
     frames1 = written_back table stored h.frames
 
     first : shown_memory table frames1 ≡ stored
     first = shown-back table h.frames stored (own-apart tables p (space_here h) frames) (stored_all-rights v.stores (memory_here h))
 
-    abbrev begins : Space
+    abbrev pub begins : Space
     begins = record { table = no_rows; frames = frames1; free = h.free }
 
-    abbrev with_p : ℕ → Reads Row
+    abbrev pub with_p : ℕ → Reads Row
     with_p = with_table tables p (at table)
 
     begins-frames : FramesOf with_p child begins
@@ -116,13 +116,13 @@ module _ (p t : ℕ) (h : Here) (v : View) (child : ℕ) (stores : List Store) (
             go true k = absurd (no-at i r k)
             go false k = k
 
-    abbrev pages : List (ℕ × Page)
+    abbrev pub pages : List (ℕ × Page)
     pages = entries (shown_memory table frames1)
 
-    count-pages : length pages ≡ count table
+    pub count-pages : length pages ≡ count table
     count-pages = sym (finmap.len-entries (shown_memory table frames1)) ∙ count-each (shown_row frames1) table
 
-    enough : length pages ≤ length h.free
+    pub enough : length pages ≤ length h.free
     enough =
         let e = says.enough in
         let a = count-pages in
@@ -133,16 +133,16 @@ module _ (p t : ℕ) (h : Here) (v : View) (child : ℕ) (stores : List Store) (
         not-less : (n k : ℕ) → nat_lt n k ≡ false → k ≤ n
         not-less n k e = grind (arith, nat_tests, e)
 
-    abbrev copied : Space
+    abbrev pub copied : Space
     copied = copied_pages pages begins
 
-    copied-frames : FramesOf with_p child copied
+    pub copied-frames : FramesOf with_p child copied
     copied-frames = frames_copied with_p child pages begins enough begins-frames
 
-    copied-shown : shown_memory copied.table copied.frames ≡ shown_memory table frames1
+    pub copied-shown : shown_memory copied.table copied.frames ≡ shown_memory table frames1
     copied-shown = shown_copied with_p child pages begins enough begins-frames ∙ ap (put_all pages) (each-none (shown_row frames1) no_rows (λ i. at-none i)) ∙ put_all-entries (shown_memory table frames1)
 
-    abbrev frames3 : Map (List ℕ)
+    abbrev pub frames3 : Map (List ℕ)
     frames3 = written_back copied.table (stored_all stores (shown_memory copied.table copied.frames)) copied.frames
 
     -- the caller's rows show what they showed
