@@ -11,8 +11,9 @@ use Rattle.hybrid_model.specs.Shown.{one, shown_born, shown_here, shown_own}
 use Rattle.hybrid_model.specs.Sides.{Side}
 use Rattle.hybrid_model.specs.declared.events.Event.{Event}
 use Rattle.kernel_model.specs.Nodes.{Node}
-use Rattle.kernel_model.specs.OneKernel.{no_own, one_here, put_one_here}
+use Rattle.kernel_model.specs.OneKernel.{no_own, one_here, put_one_here, OneKernel}
 use Rattle.kernel_model.specs.declared.steps.Step.{Step}
+use Rattle.mck_word.specs.EachLaws.{each-put}
 use Rattle.mck_word.specs.MapLaws.{at-collect, at-put, same_rows}
 use Rattle.mck_word.specs.Maps.{and_then, at, each, put}
 use Rattle.std.proofs.Common.{ap, arith, refl, sym, ◌∙◌}
@@ -57,6 +58,25 @@ module _ (pair : Pair) (p : ℕ) (present : at pair.sides p ≡ Some (side_of pa
       owns = ap (λ (b : Option (ℕ × Side)). each (shown_own h.frames) (with_born (put pair.sides p h.side) b)) none ∙ put-each
           ∙ ap (λ (b : Option (ℕ × Side)). (put_one_here (one pair) p (record (shown_here h) { born = shown_born h.frames b })).own) (sym none)
 
+  -- the same where a process begins
+  pub one-put-any : (h : Here) → ((q : ℕ) (s : Side) → (q == p) ≡ false → at pair.sides q ≡ Some s → shown_own h.frames s ≡ shown_own pair.frames s)
+      → one (put_here pair p h) ≡ put_one_here (one pair) p (shown_here h)
+  one-put-any h others = by-born h.born refl
+    where
+      plain : one (put_here pair p (record h { born = None })) ≡ put_one_here (one pair) p (shown_here (record h { born = None }))
+      plain = one-put (record h { born = None }) refl others
+
+      owns : (b : ℕ × Side) → each (shown_own h.frames) (put (put pair.sides p h.side) b.0 b.1) ≡ put (put (each (shown_own pair.frames) pair.sides) p (shown_own h.frames h.side)) b.0 (shown_own h.frames b.1)
+      owns b = each-put (shown_own h.frames) (put pair.sides p h.side) b.0 b.1 ∙ ap (λ (o : OneKernel). put o.own b.0 (shown_own h.frames b.1)) plain
+
+      by-born : (o : Option (ℕ × Side)) → h.born ≡ o → one (put_here pair p h) ≡ put_one_here (one pair) p (shown_here h)
+      by-born None e = one-put h e others
+      by-born (Some b) e =
+        let a = owns b in
+        let f = ap (λ (o : Option (ℕ × Side)). each (shown_own h.frames) (with_born (put pair.sides p h.side) o)) e ∙ a
+            ∙ ap (λ (o : Option (ℕ × Side)). (put_one_here (one pair) p (record (shown_here h) { born = shown_born h.frames o })).own) (sym e) in
+        λ i. record { own = f i; node = h.node; free = length h.free }
+
   -- a process put back as it was
   pub put-same : put_one_here (one pair) p (shown_here (here pair p)) ≡ one pair
   put-same =
@@ -71,11 +91,10 @@ module _ (pair : Pair) (p : ℕ) (present : at pair.sides p ≡ Some (side_of pa
           sym (at-collect (λ k v. Some (shown_own pair.frames v)) pair.sides j ∙ ap (λ o. and_then o (λ v. Some (shown_own pair.frames v))) (ap (at pair.sides) y ∙ present))
 
   -- from one process to the whole state
-  pub simulated-pair : (e : Event) → process_of_event pair.node e ≡ p → Simulated e p (here pair p) → AtMostOne pair.node p (image_here e p (here pair p))
-      → (after_here e p (here pair p)).born ≡ None
+  pub simulated-born : (e : Event) → process_of_event pair.node e ≡ p → Simulated e p (here pair p) → AtMostOne pair.node p (image_here e p (here pair p))
       → ((q : ℕ) (s : Side) → (q == p) ≡ false → at pair.sides q ≡ Some s → shown_own (after_here e p (here pair p)).frames s ≡ shown_own pair.frames s)
       → SimulatedPair pair e
-  simulated-pair e own s most none others = by-steps (image_here e p (here pair p)) refl most s.may_happen s.leads
+  simulated-born e own s most others = by-steps (image_here e p (here pair p)) refl most s.may_happen s.leads
     where
       h' : Here
       h' = after_here e p (here pair p)
@@ -87,7 +106,7 @@ module _ (pair : Pair) (p : ℕ) (present : at pair.sides p ≡ Some (side_of pa
       after-is = ap (λ (x : ℕ). put_here pair x (after_here e x (here pair x))) own
 
       ends : one (after pair e) ≡ put_one_here (one pair) p (shown_here (after_here e p (here pair p)))
-      ends = ap one after-is ∙ one-put (after_here e p (here pair p)) none others
+      ends = ap one after-is ∙ one-put-any (after_here e p (here pair p)) others
 
       by-steps : (ss : List Step) → image_here e p (here pair p) ≡ ss → AtMostOne pair.node p ss → steps_may p ss (shown_here (here pair p)) ≡ true → steps_after p ss (shown_here (here pair p)) ≡ shown_here (after_here e p (here pair p)) → SimulatedPair pair e
       by-steps [] f m a l =
@@ -105,3 +124,10 @@ module _ (pair : Pair) (p : ℕ) (present : at pair.sides p ≡ Some (side_of pa
                 ∙ ap (λ h. put_one_here (one pair) p (OneSteps.after_here x p h)) one-here ∙ ap (put_one_here (one pair) p) l ∙ sym ends;
           }
       by-steps (x ∷ y ∷ ss) f m a l = absurd m
+
+  -- where no process begins
+  pub simulated-pair : (e : Event) → process_of_event pair.node e ≡ p → Simulated e p (here pair p) → AtMostOne pair.node p (image_here e p (here pair p))
+      → (after_here e p (here pair p)).born ≡ None
+      → ((q : ℕ) (s : Side) → (q == p) ≡ false → at pair.sides q ≡ Some s → shown_own (after_here e p (here pair p)).frames s ≡ shown_own pair.frames s)
+      → SimulatedPair pair e
+  simulated-pair e own s most none others = simulated-born e own s most others

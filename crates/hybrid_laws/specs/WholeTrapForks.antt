@@ -4,18 +4,20 @@ use Rattle.hybrid_model.specs.declared.events.Event.TheVariants as Events
 use Rattle.hybrid_laws.specs.TrapForks as forks
 use Rattle.file_model.specs.Files.{Files, no_description}
 use Rattle.file_model.specs.declared.descriptions.Description.{Description}
-use Rattle.hybrid_laws.specs.Copying.{length_copied, less-free}
+use Rattle.hybrid_laws.specs.Copying.{length_copied, less-free, bytes_copied}
 use Rattle.hybrid_laws.specs.Dropping.{with_table}
 use Rattle.hybrid_laws.specs.EffectCounts.{Below, below-lowest}
 use Rattle.hybrid_laws.specs.ForkNode.{fork-answers, fork-ended, fork-instructions, fork-made, fork-open, fork-paid, fork-there, left_by_fork}
 use Rattle.hybrid_laws.specs.Goes.{IsAwake}
 use Rattle.hybrid_laws.specs.NodeKeeps.{node-keeps}
 use Rattle.hybrid_laws.specs.NodePrimitives.{then}
+use Rattle.hybrid_laws.specs.Reading.{each-same}
 use Rattle.hybrid_laws.specs.ReapEvent.{count-each}
 use Rattle.hybrid_laws.specs.SoundNode.{Sound, node-holds, sound-of, stops}
 use Rattle.hybrid_laws.specs.Tests.{both}
 use Rattle.hybrid_laws.specs.TrapBegins.{Traps, may-traps}
-use Rattle.hybrid_laws.specs.TrapForks.{born_forks}
+use Rattle.hybrid_laws.specs.TrapEvent.{simulated_trap}
+use Rattle.hybrid_laws.specs.TrapForks.{born_forks, written-other}
 use Rattle.hybrid_laws.specs.TrapGoes.{NodeSteps}
 use Rattle.hybrid_laws.specs.TrapKeeps.{NodeHolds, TrappedKeeps, next-new, sleepers-free, trap-idle, trap-keeps, trap_free}
 use Rattle.hybrid_laws.specs.TrapSays.{ForkSays, TrappedSays, trap-says}
@@ -23,14 +25,15 @@ use Rattle.hybrid_laws.specs.TrapSteps.{awake-stopped, past-steps, past-there}
 use Rattle.hybrid_laws.specs.WholeBorn.{KeepingBorn, coherent-born}
 use Rattle.hybrid_laws.specs.WholeNode.{left_with}
 use Rattle.hybrid_laws.specs.WholePair.{has-side, there-has}
-use Rattle.hybrid_laws.specs.WholeQuiet.{own-frames}
+use Rattle.hybrid_laws.specs.WholeQuiet.{own-frames, other-frame, own-table}
+use Rattle.hybrid_laws.specs.WholeSteps.{SimulatedPair, simulated-born}
 use Rattle.hybrid_model.specs.Coherence.{OfProcess}
 use Rattle.hybrid_model.specs.Events.{after, may, may_here}
 use Rattle.hybrid_model.specs.Globals.{Coherent, Frames, description_held, holders, is_number, ring_number, table_of}
 use Rattle.hybrid_model.specs.Linux.{end_of_found, end_of_target}
-use Rattle.hybrid_model.specs.Lwk.{after_trap, ran_last, trapped, view_here}
+use Rattle.hybrid_model.specs.Lwk.{after_trap, ran_last, trapped, view_here, memory_here}
 use Rattle.hybrid_model.specs.Pairs.{Here, Pair, here, put_here, side_of}
-use Rattle.hybrid_model.specs.Shown.{status_of}
+use Rattle.hybrid_model.specs.Shown.{status_of, shown_call, shown_own}
 use Rattle.hybrid_model.specs.Sides.{Caller, Row, Side, new_side, no_lwk, service_of}
 use Rattle.hybrid_model.specs.Spaces.{Space, copied_pages, page_at_lowest, shown_memory, shown_row}
 use Rattle.hybrid_model.specs.Tallies.{Reads}
@@ -38,16 +41,16 @@ use Rattle.ikc_ring.specs.declared.Msg.{Msg}
 use Rattle.isa_model.specs.Memory.{Page}
 use Rattle.kernel_model.specs.CloneCalls.{forks, with_child}
 use Rattle.kernel_model.specs.Nodes.{Node, Process, Thread, has_process, instructions_in_all, is_asleep, is_ended, is_stopped, is_there, set_pc, thread_of}
-use Rattle.kernel_model.specs.Signals.{Store, View}
+use Rattle.kernel_model.specs.Pages.{zero_page}
+use Rattle.kernel_model.specs.Signals.{Store, View, stored_all}
 use Rattle.kernel_model.specs.Traps.{Forks, Trapped, past_ecall, trap}
 use Rattle.mck_word.specs.MapLaws.{at-none, at-put, same_rows}
-use Rattle.mck_word.specs.Maps.{Map, at, count, entries, no_rows, put, total}
+use Rattle.mck_word.specs.Maps.{Map, at, count, entries, no_rows, put, total, each}
 use Rattle.mck_word.specs.declared.Tid.{Tid}
 use Rattle.std.proofs.Common.{ap, arith, refl, subst, sym, ◌∙◌}
 use Rattle.std.proofs.lemmas.Bool.Decides.{nat_tests}
 use Rattle.std.specs.Ordering.{nat_cmp}
 use Rattle.std.specs.Prelude.{Bool, List, None, Option, Some, [], cond, count_by, false, if◌then◌else◌, is_some, length, replicate, suc, true, unwrap_or, zero, ℕ, ◌%◌, ◌+◌, ◌==◌, ◌||◌, ◌∷◌, ◌≡◌, ◌≢◌, ◌≤◌}
-use mathlib.Core.Path.{fun_ext}
 
 -- what the fork does to the node as a whole
 record ForkSteps (a b : Node) : Type 0 where
@@ -187,13 +190,6 @@ module _ (pair : Pair) (c : Coherent pair) (t : Tid) (e : may pair (Events.Trap 
             or-left true b f = refl
             or-left false b f = absurd (grind (arith, f))
 
-    with-own : with_table (table_of pair) p (at (side_of pair p).lwk.table) ≡ table_of pair
-    with-own = fun_ext (λ q. go q (q == p) refl)
-      where
-        go : (q : ℕ) (b : Bool) → (q == p) ≡ b → (if b then at (side_of pair p).lwk.table else table_of pair q) ≡ table_of pair q
-        go q true f = let y : p ≡ q = grind (arith, nat_tests, f) in ap (table_of pair) y
-        go q false f = refl
-
     apart : (q : ℕ) → n ≢ q → (q == n) ≡ false
     apart q d = go (q == n) refl
       where
@@ -210,7 +206,7 @@ module _ (pair : Pair) (c : Coherent pair) (t : Tid) (e : may pair (Events.Trap 
     keeping = record {
       own = born_forks p t.0 h v n stores says pair.workers (ring_number pair) fresh (subst (λ (s : Side). OfProcess n s pair.node pair.workers (ring_number pair)) (ap (λ (o : Option Side). unwrap_or o (new_side 0)) absent) (c.whole n)) copied.table;
       others = λ q d. others-whole q (λ g. d (sym g));
-      framed = subst (λ (f : ℕ → Reads Row). Frames (with_table f n (at copied.table)) copied.free) with-own (forks.copied-frames p t.0 h v n stores says (table_of pair) (own-frames pair c p) other refl);
+      framed = subst (λ (f : ℕ → Reads Row). Frames (with_table f n (at copied.table)) copied.free) (own-table pair c p) (forks.copied-frames p t.0 h v n stores says (table_of pair) (own-frames pair c p) other refl);
       rows_below = below.rows;
       free_below = below.free;
       counted = (let a = length_copied (table_of pair) n (forks.pages p t.0 h v n stores says (table_of pair) (own-frames pair c p) other refl) (forks.begins p t.0 h v n stores says (table_of pair) (own-frames pair c p) other refl) (forks.enough p t.0 h v n stores says (table_of pair) (own-frames pair c p) other refl) in
@@ -251,7 +247,55 @@ module _ (pair : Pair) (c : Coherent pair) (t : Tid) (e : may pair (Events.Trap 
     pub coherent_trap_born : Coherent (after pair (Events.Trap t))
     coherent_trap_born = subst Coherent (sym after-is) (coherent-born pair c n absent side v.node frames' copied.free last keeping)
 
+    -- the frames of other processes keep their bytes
+    abbrev pages : List (ℕ × Page)
+    pages = forks.pages p t.0 h v n stores says (table_of pair) (own-frames pair c p) other refl
+
+    abbrev begins : Space
+    begins = forks.begins p t.0 h v n stores says (table_of pair) (own-frames pair c p) other refl
+
+    frame-stays : (q j : ℕ) (r : Row) → (q == n) ≡ false → (q == p) ≡ false → table_of pair q j ≡ Some r → at frames' r.0.0 ≡ at pair.frames r.0.0
+    frame-stays q j r d o e =
+        written-other copied.table (stored_all stores (shown_memory copied.table copied.frames)) copied.frames r.0.0 (λ i y f. differ i y f (r.0.0 == y.0.0) refl)
+        ∙ bytes_copied (table_of pair) n pages r.0.0 begins (forks.enough p t.0 h v n stores says (table_of pair) (own-frames pair c p) other refl) (c.frames.not_free q j r e)
+        ∙ other-frame pair c p (stored_all v.stores (memory_here h)) q j r (λ z. grind (arith, nat_tests, o, z)) e
+      where
+        all : Frames (with_table (table_of pair) n (at copied.table)) copied.free
+        all = subst (λ (f : ℕ → Reads Row). Frames (with_table f n (at copied.table)) copied.free) (own-table pair c p) (forks.copied-frames p t.0 h v n stores says (table_of pair) (own-frames pair c p) other refl)
+
+        at-q : with_table (table_of pair) n (at copied.table) q j ≡ Some r
+        at-q = ap (λ (b : Bool). (if b then at copied.table else table_of pair q) j) d ∙ e
+
+        at-n : (i : ℕ) (y : Row) → at copied.table i ≡ Some y → with_table (table_of pair) n (at copied.table) n i ≡ Some y
+        at-n i y f = let b : (n == n) ≡ true = grind (arith, nat_tests) in ap (λ (b : Bool). (if b then at copied.table else table_of pair n) i) b ∙ f
+
+        differ : (i : ℕ) (y : Row) → at copied.table i ≡ Some y → (b : Bool) → (r.0.0 == y.0.0) ≡ b → b ≡ false
+        differ i y f false g = refl
+        differ i y f true g =
+            let s : r.0.0 ≡ y.0.0 = grind (arith, nat_tests, g) in
+            absurd (let z = (all.apart q j r n i y at-q (at-n i y f) (λ k. record { 0 = s k })).0 in grind (arith, nat_tests, z, d))
+
+    others-shown : (q : ℕ) (s : Side) → (q == p) ≡ false → at pair.sides q ≡ Some s → shown_own frames' s ≡ shown_own pair.frames s
+    others-shown q s o e =
+        let f = ap (λ (o : Option Side). at (unwrap_or o (new_side 0)).lwk.table) e in
+        let a = each-same (shown_row frames') (shown_row pair.frames) s.lwk.table (λ j r g.
+          (let b = ap (λ (o : Option (List ℕ)). unwrap_or o zero_page) (frame-stays q j r (not-n (q == n) refl) o (ap (λ (t : Reads Row). t j) f ∙ g)) in λ k. record { rights = r.1; bytes = b k })) in
+        λ i. record { memory = a i; calls = each (shown_call s) s.lwk.callers }
+      where
+        not-n : (b : Bool) → (q == n) ≡ b → b ≡ false
+        not-n false g = refl
+        not-n true g = absurd (let y : q ≡ n = grind (arith, nat_tests, g) in let z = sym e ∙ ap (at pair.sides) y ∙ absent in grind (arith, z))
+
+    pub simulated_pair_trap_born : SimulatedPair pair (Events.Trap t)
+    unfolding after_trap
+    simulated_pair_trap_born = simulated-born pair p (has-side pair c.known p there) (Events.Trap t) refl
+      (simulated_trap p t h allowed refl nodes pair.workers (c.whole p) (table_of pair) (own-frames pair c p) refl) refl
+      (λ q s o f. ap (λ (y : Trapped). shown_own (trapped p t.0 y h).frames s) is ∙ others-shown q s o f)
+
   -- whatever number is said to be the new one
   module _ (v : View) (child : ℕ) (stores : List Store) (is : trap t.0 (length pair.free) (view_here h) ≡ Forks v child stores) where
     pub coherent_trap_forks : Coherent (after pair (Events.Trap t))
     coherent_trap_forks = coherent_trap_born v stores (is ∙ ap (λ (k : ℕ). Forks v k stores) (subst (TrappedSays t.0 (length pair.free) (view_here h)) is (trap-says t.0 (length pair.free) (view_here h))).number)
+
+    pub simulated_pair_trap_forks : SimulatedPair pair (Events.Trap t)
+    simulated_pair_trap_forks = simulated_pair_trap_born v stores (is ∙ ap (λ (k : ℕ). Forks v k stores) (subst (TrappedSays t.0 (length pair.free) (view_here h)) is (trap-says t.0 (length pair.free) (view_here h))).number)
