@@ -117,6 +117,7 @@ pub mod Freeing
 pub mod EndedNode
 pub mod ForkNode
 pub mod WholeTrapForks
+pub mod EveryEvent
 pub mod WholeBorn
 pub mod WholeReap
 pub mod WholeIntakeFault

@@ -9,18 +9,14 @@ ghost use Rattle.hybrid_model.specs.Coherence.{OfProcess};
 ghost use Rattle.hybrid_model.specs.Events.{after, after_here, may, may_here};
 ghost use Rattle.hybrid_model.specs.Globals.{Coherent};
 ghost use Rattle.hybrid_model.specs.Images.{image};
-ghost use Rattle.hybrid_model.specs.Lwk.{answer_to, space_here, view_here};
+ghost use Rattle.hybrid_model.specs.Lwk.{answer_to, space_here};
 ghost use Rattle.hybrid_model.specs.Pairs.{Here, Pair, here, ring_of, side_of};
 ghost use Rattle.hybrid_model.specs.Shown.{one};
 ghost use Rattle.hybrid_model.specs.Sides.{Row, Side};
 ghost use Rattle.hybrid_model.specs.Tallies.{Reads};
 ghost use Rattle.hybrid_model.specs.declared.events.Event.{Event};
 ghost use Rattle.hybrid_model.specs.declared.events.Event.TheVariants.{Answer, Intake, Reap, Trap};
-ghost use Rattle.kernel_model.specs.Nodes.{Node, thread_of};
-ghost use Rattle.kernel_model.specs.Progress.{Progress};
-ghost use Rattle.kernel_model.specs.Signals.{View};
-ghost use Rattle.kernel_model.specs.Traps.{Begins, Changes, Done, trap};
-ghost use Rattle.kernel_model.specs.declared.Change.{Change};
+ghost use Rattle.kernel_model.specs.Nodes.{thread_of};
 ghost use Rattle.mck_word.specs.declared.Pid.{Pid};
 ghost use Rattle.mck_word.specs.declared.Tid.{Tid};
 ghost use Rattle.std.specs.Prelude.{◌≡◌, ◌≢◌, true, None, Some, length, ℕ};
@@ -36,18 +32,14 @@ pub fn every_intake()
     ensures simulated { (pair : Pair) (q : Pid) → Coherent pair → may pair (Intake q) ≡ true → Runs (one pair) (image pair (Intake q)) (one (after pair (Intake q))) }
 {}
 
-/// A trap that is done at once (a local call but fork, a memory call that waits for a round or is answered, a raised signal), begins a
-/// delegated call, or changes the memory at once: coherence is kept, and the image is a run of the one-kernel machine.
-pub fn every_trap_but_fork()
-    ensures done { (pair : Pair) (t : Tid) (v : View) → Coherent pair → may pair (Trap t) ≡ true
-        → trap t.0 (length pair.free) (view_here (here pair (thread_of pair.node t.0).process)) ≡ Done v
-        → Coherent (after pair (Trap t)) × Runs (one pair) (image pair (Trap t)) (one (after pair (Trap t))) }
-    ensures begins { (pair : Pair) (t : Tid) (node : Node) (progress : Progress) → Coherent pair → may pair (Trap t) ≡ true
-        → trap t.0 (length pair.free) (view_here (here pair (thread_of pair.node t.0).process)) ≡ Begins node progress
-        → Coherent (after pair (Trap t)) × Runs (one pair) (image pair (Trap t)) (one (after pair (Trap t))) }
-    ensures changes { (pair : Pair) (t : Tid) (change : Change) (node : Node) → Coherent pair → may pair (Trap t) ≡ true
-        → trap t.0 (length pair.free) (view_here (here pair (thread_of pair.node t.0).process)) ≡ Changes node change
-        → Coherent (after pair (Trap t)) × Runs (one pair) (image pair (Trap t)) (one (after pair (Trap t))) }
+/// Every event, of either kernel, that may happen in a coherent state: coherence is kept, and the image is a run of the one-kernel machine.
+pub fn every_event()
+    ensures { (pair : Pair) (e : Event) → Coherent pair → may pair e ≡ true → Coherent (after pair e) × Runs (one pair) (image pair e) (one (after pair e)) }
+{}
+
+/// A trap, whatever it comes to: done at once, a process that begins, a delegated call, a change of the memory.
+pub fn every_trap()
+    ensures { (pair : Pair) (t : Tid) → Coherent pair → may pair (Trap t) ≡ true → Coherent (after pair (Trap t)) × Runs (one pair) (image pair (Trap t)) (one (after pair (Trap t))) }
 {}
 
 /// Any trap, also one that changes the memory at once or makes a process, on the process of its thread: what holds of it is kept, and so is

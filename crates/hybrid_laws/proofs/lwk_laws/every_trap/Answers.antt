@@ -1,0 +1,5 @@
+use Rattle.hybrid_laws.specs.EveryEvent.{whole_trap}
+use Rattle.hybrid_laws.proofs.lwk_laws.every_trap.Goals as goal
+
+pub returns : goal.returns
+returns c = λ pair t coherent allowed. whole_trap pair coherent t allowed
