@@ -29,9 +29,10 @@ def seconds(program, kind, size, rounds):
 
 
 def per_round(program, kind, size, rounds):
-    """The least seconds of a round and the bytes of the text, without what the program takes to start and to make the text."""
-    best = min(seconds(program, kind, size, rounds)[0] - seconds(program, kind, size, 0)[0] for _ in range(5))
-    return best / rounds, seconds(program, kind, size, 0)[1]
+    """The seconds of a round and the bytes of the text, without what the program takes to start and to make the text."""
+    none = min(seconds(program, kind, size, 0)[0] for _ in range(7))
+    all_rounds = min(seconds(program, kind, size, rounds)[0] for _ in range(7))
+    return (all_rounds - none) / rounds, seconds(program, kind, size, 0)[1]
 
 
 def main():
