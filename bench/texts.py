@@ -1,12 +1,12 @@
 #!/usr/bin/env python3
 """Measures how long assembler texts and jobs take to read, at a tenth of a size and at the whole of it.
 
-Builds crates/text_sizes and prints the time a line, and what the whole takes a line over the tenth: near 1 where reading is linear.
+Builds crates/text_sizes and prints the processor time a byte, and that of the whole over that of the tenth: near 1 where reading is linear.
 """
 import os
+import resource
 import subprocess
 import sys
-import time
 
 TOP = os.path.dirname(os.path.dirname(os.path.abspath(__file__)))
 CRATE = os.path.join(TOP, "crates", "text_sizes")
@@ -14,24 +14,25 @@ CRATE = os.path.join(TOP, "crates", "text_sizes")
 
 def build():
     """Proves and builds the program; its file is out/text_sizes."""
-    told = subprocess.run(["rt", "run", "--", "assemble", "100000", "1"], cwd=CRATE, text=True, stdout=subprocess.PIPE, stderr=subprocess.STDOUT)
     program = os.path.join(CRATE, "out", "text_sizes")
+    told = subprocess.run(["rt", "run", "--", "assemble", "100000", "1"], cwd=CRATE, text=True, stdout=subprocess.PIPE, stderr=subprocess.STDOUT)
     if not os.path.exists(program):
         sys.exit(told.stdout + "the program was not built")
     return program
 
 
 def seconds(program, kind, size, rounds):
-    """The seconds of a run, and the bytes of its text."""
-    begin = time.perf_counter()
+    """The processor seconds of a run, and the bytes of its text."""
+    begin = resource.getrusage(resource.RUSAGE_CHILDREN).ru_utime
     told = subprocess.run([program, kind, str(size), str(rounds)], text=True, check=True, stdout=subprocess.PIPE).stdout
-    return time.perf_counter() - begin, int(told.split()[1])
+    return resource.getrusage(resource.RUSAGE_CHILDREN).ru_utime - begin, int(told.split()[1])
 
 
 def per_round(program, kind, size, rounds):
-    """The least seconds of a round and the bytes of the text, without what the program takes to start and to make the text."""
-    best = min(seconds(program, kind, size, rounds)[0] - seconds(program, kind, size, 0)[0] for _ in range(5))
-    return best / rounds, seconds(program, kind, size, 0)[1]
+    """The seconds of a round and the bytes of the text, without what the program takes to start and to make the text."""
+    none = min(seconds(program, kind, size, 0)[0] for _ in range(7))
+    all_rounds = min(seconds(program, kind, size, rounds)[0] for _ in range(7))
+    return (all_rounds - none) / rounds, seconds(program, kind, size, 0)[1]
 
 
 def main():
