@@ -23,21 +23,25 @@ pub small-found : (n : ℕ) (arguments : List ℕ) (value : ℤ) → (is_read n 
 small-found n arguments value e = elim (or-cases (is_read n) (is_write n) e) [
   | inl r ↦ elim (or-cases (n == 63 || n == 67) (n == 65) r) [
     | inl s ↦ elim (or-cases (n == 63) (n == 67) s) [ inl t ↦ at 63 (same n 63 t) (λ h. h) | inr t ↦ at 67 (same n 67 t) (λ h. h) ]
-    | inr s ↦ at 65 (same n 65 s) (λ h. h) ]
+    | inr s ↦ at 65 (same n 65 s) (λ h. h)
+  ]
   | inr r ↦ elim (or-cases (n == 64 || n == 68) (n == 66) r) [
     | inl s ↦ elim (or-cases (n == 64) (n == 68) s) [ inl t ↦ at 64 (same n 64 t) (λ h. h) | inr t ↦ at 68 (same n 68 t) (λ h. h) ]
-    | inr s ↦ at 66 (same n 66 s) (λ h. h) ] ]
+    | inr s ↦ at 66 (same n 66 s) (λ h. h)
+  ]
+]
   where
     Small : ℕ → Type 0
     Small k = IsNumber (act_of k arguments) (answer.Done value) → value <ℤ pos (2 ^ 32)
+
     at : (k : ℕ) → n ≡ k → (IsNumber (act_of k arguments) (answer.Done value) → value <ℤ pos (2 ^ 32)) → (IsNumber (act_of n arguments) (answer.Done value) → value <ℤ pos (2 ^ 32))
     at k e h = subst (λ (j : ℕ). IsNumber (act_of j arguments) (answer.Done value) → value <ℤ pos (2 ^ 32)) (sym e) h
 
 by_answer : Progress → FileResult → ℤ → After
 by_answer p r (negsuc n) = record { progress = p; ended = Some (negsuc n); files = r.files }
 by_answer p r (pos n) = cond (is_read p.number || is_write p.number)
-  (settle (record p { found = Some n; phases = tail p.phases }) r.files)
-  (settle (record p { answer = pos n; buffer = r.out; phases = with_scatter r.out (tail p.phases) }) r.files)
+    (settle (record p { found = Some n; phases = tail p.phases }) r.files)
+    (settle (record p { answer = pos n; buffer = r.out; phases = with_scatter r.out (tail p.phases) }) r.files)
 
 -- it goes on with what the act answered and gave out
 pub acted-value : (p q : Progress) (r : FileResult) (value : ℤ) (out : List ℕ) (files : Files) → pos 0 ≤ℤ value → value ≡ r.answer → (is_read p.number || is_write p.number) ≡ false

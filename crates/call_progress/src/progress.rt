@@ -36,9 +36,10 @@ impl Model for Progress {
     ghost Value = { Kept };
 
     ghost view = { λ p. record {
-        progress = record { number = p.number; arguments = p.arguments; phases = p.phases; buffer = drop p.from p.buffer.items; moved = p.moved; answer = p.answer; found = p.found };
-        spare = vec_capacity p.buffer - vec_len p.buffer;
-        out = p.out.items } };
+      progress = record { number = p.number; arguments = p.arguments; phases = p.phases; buffer = drop p.from p.buffer.items; moved = p.moved; answer = p.answer; found = p.found };
+      spare = vec_capacity p.buffer - vec_len p.buffer;
+      out = p.out.items;
+    } };
 
     ghost invariant = { λ p. p.from ≤ vec_len p.buffer };
 }
@@ -98,10 +99,11 @@ impl Progress {
     pub fn next_piece(&self) -> Piece
         ensures { result ≡ calls.next_piece self.now.progress }
     {
-        piece_of(self.phases.first_range().unwrap_or(Range {
-            address: 0,
-            len: 0,
-        }))
+        piece_of(
+            self.phases
+                .first_range()
+                .unwrap_or(Range { address: 0, len: 0 }),
+        )
     }
 
     /// The right that the next piece needs in the process's memory.
@@ -167,14 +169,22 @@ impl Progress {
     pub fn interrupted_answer(&self) -> i64
         ensures { result ≡ interrupted_answer self.now.progress }
     {
-        if self.moved == 0 { -4 } else { i64::from(self.moved) }
+        if self.moved == 0 {
+            -4
+        } else {
+            i64::from(self.moved)
+        }
     }
 
     /// The answer of a call that meets a page that is absent or lacks the right.
     pub fn fault_answer(&self) -> i64
         ensures { result ≡ calls.fault_answer self.now.progress }
     {
-        if self.moved == 0 { -14 } else { i64::from(self.moved) }
+        if self.moved == 0 {
+            -14
+        } else {
+            i64::from(self.moved)
+        }
     }
 
     /// Gives the call's description back.

@@ -21,8 +21,18 @@ fn end_value<S: FileStore>(files: &mut S, op: &FileOp) -> i64
     ensures { (pid : ℕ) → done result (S.files files.new) ≡ steps.file_step (S.files files.old) pid op.now [] }
 {
     match *op {
-        FileOp::Get { desc, at, moved, .. } => get(files, desc, at, moved, &mut []),
-        FileOp::Put { desc, at, moved, len } => put(files, desc, at, moved, len, &[]),
+        FileOp::Get {
+            desc,
+            at,
+            moved,
+            ..
+        } => get(files, desc, at, moved, &mut []),
+        FileOp::Put {
+            desc,
+            at,
+            moved,
+            len,
+        } => put(files, desc, at, moved, len, &[]),
         _ => 0,
     }
 }
@@ -36,7 +46,11 @@ impl Progress {
     {
         let op = self.stream_operation();
         let value = end_value(files, &op);
-        let answer = if self.moved == 0 { value } else { i64::from(self.moved) };
+        let answer = if self.moved == 0 {
+            value
+        } else {
+            i64::from(self.moved)
+        };
         self.end(files, answer)
     }
 }
