@@ -1,1 +1,4 @@
 pub mod ActSteps
+pub mod Buffers
+pub mod PhaseCases
+pub mod VectorSteps

@@ -3,7 +3,7 @@ use Rattle.file_model.specs.Files.{Files}
 use Rattle.file_model.specs.Operations.{FileResult}
 use Rattle.file_model.specs.declared.operations.FileOp.{FileOp}
 use Rattle.file_model.specs.declared.operations.FileOp.TheVariants.{Pipe2, Fstat, Getdents, Get, Put, Leave}
-use Rattle.kernel_model.specs.Progress.{After, Progress}
+use Rattle.kernel_model.specs.Progress.{After, Moved, Progress}
 use Rattle.std.specs.Prelude.{◌≡◌, ◌≤ℤ◌, pos, ℕ, ℤ, List, Option, length, min}
 
 -- the progress, how many bytes its buffer can take without memory, and the bytes that an act can give out into
@@ -36,3 +36,7 @@ pub record HasActed (r : FileResult) (value : ℤ) (left : Files) (before now : 
   pub leaves : left ≡ r.files
   pub keeps : now.progress ≡ before.progress
   pub gives : pos 0 ≤ℤ value → now.out ≡ r.out
+
+-- a piece that was moved: the bytes of its page, and the rest of what the step leaves
+abbrev pub moved : List ℕ → After → Moved
+moved page rest = record { page = page; after = rest }

@@ -1,0 +1,15 @@
+-- What a phase's kind says of the phases.
+use Rattle.call_plan.specs.Stages.{kind_of, moved_past}
+use Rattle.call_plan.specs.declared.phases.Kind.TheVariants as kind
+use Rattle.kernel_model.specs.Plans.{Phase, Gather, Act, Scatter, Stream}
+use Rattle.kernel_model.specs.Progress.{advanced, ranges_of, without_empty}
+use Rattle.mck_word.specs.Lists.{tail}
+use Rattle.std.proofs.Common.{◌≡◌, ℕ, List, [], ◌∷◌, get_or, refl}
+use Rattle.std.specs.Prelude.{Some}
+
+pub scatter-past : (n : ℕ) (phases : List Phase) → kind_of phases ≡ Some kind.Scatter → moved_past n phases ≡ Scatter (advanced n (without_empty (ranges_of (get_or phases 0 Act)))) ∷ tail phases
+scatter-past n [] e = cc
+scatter-past n (Gather rs ∷ phases) e = cc
+scatter-past n (Act ∷ phases) e = cc
+scatter-past n (Scatter rs ∷ phases) e = refl
+scatter-past n (Stream rs ∷ phases) e = cc
