@@ -137,12 +137,13 @@ or_no_frames p (Some lack) = Err (NoFrames lack.guest lack.needed lack.free)
 abbrev pub with_frames : Prepared → Result Prepared Status
 with_frames p = or_no_frames p (shortage p.job p.images)
 
-abbrev pub prepared_from : Held → Job → Result Prepared Status
-prepared_from held job = take_all held job (sources_of job) nothing_fetched >>= λ f. with_frames (prepared_job job f)
+-- the job with all that its lines name, or the first refusal of these
+unfoldable pub gathered : Held → List ℕ → Result Prepared Status
+gathered held name = job_at held name >>= λ job. take_all held job (sources_of job) nothing_fetched >>= λ f. Ok (prepared_job job f)
 
--- the job with its images and files, or the first refusal
-unfoldable pub prepared : Held → List ℕ → Result Prepared Status
-prepared held name = job_at held name >>= λ job. prepared_from held job
+-- the same where the frames suffice, or the first refusal before the run
+abbrev pub prepared : Held → List ℕ → Result Prepared Status
+prepared held name = gathered held name >>= with_frames
 
 -- ---- the names that a call for a job has to fetch
 

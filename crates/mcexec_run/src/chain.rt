@@ -2,7 +2,8 @@
 ghost use Rattle.job_model.specs.Images.{IsImage};
 ghost use Rattle.job_model.specs.Prepared.{IsPrepared, most_file};
 ghost use Rattle.job_text.specs.Kept.{IsJob};
-ghost use Rattle.mcexec_run.specs.Chain.{Gives, IsFilled, IsRefusal, RoseAmong, fetched, file_bytes, guest_image, image_name, job_at, names_of_job, take_all, take_file, take_guest, take_input, take_kind, take_source, IsPlaced, IsSource, images_in, images_made, nothing_fetched};
+ghost use Rattle.mcexec_run.specs.Chain.{Gives, IsFilled, IsRefusal, RoseAmong, fetched, file_bytes, guest_image, image_name, job_at, names_of_job, take_all, take_file, take_guest, take_input, take_kind, take_source, IsPlaced, IsSource, images_in, images_made, nothing_fetched, gathered, has_to_fetch, prepared_job};
+ghost use Rattle.job_text.specs.Order.{sources_of};
 ghost use Rattle.job_text.specs.declared.order.SourceKind.TheVariants.{Guest, File, Input};
 ghost use Rattle.std.specs.List.{AllByRecursion};
 ghost use Rattle.mck_report.specs.declared.status.Status.TheVariants.{HostFault};
@@ -319,4 +320,72 @@ fn take_all<H: Host>(
         rest = more;
     }
     Ok(fetched)
+}
+
+// What a job that reads becomes with what was fetched for it.
+fn with_fetched(job: Job, fetched: Fetched) -> Prepared
+    requires job { IsJob job }
+    requires filled { IsFilled fetched }
+    requires count { length fetched.images ≡ images_in (sources_of job) }
+    ensures value { result ≡ prepared_job job fetched }
+    ensures prepared { IsPrepared result.job result.images }
+{
+    let Job {
+        frames,
+        cores,
+        workers,
+        rings,
+        limit,
+        guests,
+        signals,
+        files: _,
+        inputs: _,
+    } = job;
+    let Fetched {
+        images,
+        files,
+        inputs,
+    } = fetched;
+    let job = Job {
+        frames,
+        cores,
+        workers,
+        rings,
+        limit,
+        guests,
+        signals,
+        files,
+        inputs,
+    };
+    Prepared { job, images }
+}
+
+// What the lines of the job name, in their order in the text.
+fn fetch_all<H: Host>(alloc: Global, host: &mut H, job: &Job) -> Result<Fetched, Status>
+    requires { IsJob job.now }
+    ensures goes_on { HostGoesOn H.holds H.faults host.old host.new }
+    ensures refusal { IfErr result IsRefusal }
+    ensures value { WhereTold (H.holds host.old) (λ held. Gives (λ f. f) result (take_all held job.now (sources_of job.now) nothing_fetched)) }
+    ensures fault { IsErrOf result HostFault → RoseAmong H.faults host.old host.new (names_of_job job.now) }
+    ensures filled { IfOk result IsFilled }
+    ensures count { IfOk result (λ f. length f.images ≡ images_in (sources_of job.now)) }
+{
+    let Ok(all) = sources(alloc, job) else {
+        return Err(Status::NoMemory);
+    };
+    take_all(alloc, host, job, all.as_slice())
+}
+
+/// The job under a name with all that its lines name, or the first refusal.
+#[tactic(auto, unfolding(crate::specs::Chain::gathered))]
+pub fn gather<H: Host>(alloc: Global, host: &mut H, name: &str) -> Result<Prepared, Status>
+    ensures goes_on { HostGoesOn H.holds H.faults host.old host.new }
+    ensures refusal { IfErr result IsRefusal }
+    ensures value { WhereTold (H.holds host.old) (λ held. Gives (λ p. p) result (gathered held name.now)) }
+    ensures fault { WhereTold (H.holds host.old) (λ held. IsErrOf result HostFault → RoseAmong H.faults host.old host.new (has_to_fetch held name.now)) }
+    ensures prepared { IfOk result (λ p. IsPrepared p.job p.images) }
+{
+    let job = fetch_job(alloc, host, name)?;
+    let fetched = fetch_all(alloc, host, &job)?;
+    Ok(with_fetched(job, fetched))
 }

@@ -6,8 +6,14 @@
 //! byte for byte. The calls are over any `Machine`. The definitions stand in specs/: Commands, Chain, Outcome.
 #![tactic(auto)]
 
+mod calls;
 mod chain;
 mod command;
+mod machine;
+mod walking;
 
-pub use chain::{Fetched, Prepared};
+pub use calls::{Ended, check, mcexec, walk};
+pub use chain::{Fetched, Prepared, gather};
 pub use command::{Command, Form, read_command};
+pub use machine::{BootError, Machine};
+pub use walking::walk_journal;

@@ -1,0 +1,15 @@
+use Rattle.hybrid_model.specs.Journals.{may_all, state}
+use Rattle.ihk_parts.specs.Turns.{first_turn}
+use Rattle.mcexec_run.proofs.walking.walk_journal.Given as goal
+use Rattle.mcexec_run.specs.Walking.{Follows}
+use Rattle.std.proofs.Common.{true, ◌≡◌}
+
+abbrev pub invariant-steps : goal.invariant-steps
+invariant-steps g l = record {
+  follows : Follows (first_turn l.order) (g.M.Offers.pair l.fn.machine) l.journal l.walker (g.M.Offers.pair l.machine);
+  legal : may_all (g.M.Offers.pair l.fn.machine) l.journal ≡ true;
+  state : g.M.Offers.pair l.machine ≡ state (g.M.Offers.pair l.fn.machine) l.journal;
+}
+
+abbrev pub decreases-steps : goal.decreases-steps
+decreases-steps g l = g.M.Machine.work l.machine

@@ -1,0 +1,71 @@
+// What the top calls ask of the two kernels.
+ghost use Rattle.hybrid_model.specs.Boot.{Shortage, boot, shortage};
+ghost use Rattle.hybrid_model.specs.Events.{after, may};
+ghost use Rattle.hybrid_model.specs.Journals.{ending};
+ghost use Rattle.hybrid_model.specs.Shown.{one};
+ghost use Rattle.hybrid_model.specs.declared.events.Ending.TheVariants.{Unfinished};
+ghost use Rattle.hybrid_model.specs.declared.events.Event.{Event};
+ghost use Rattle.job_model.specs.Prepared.{IsPrepared};
+ghost use Rattle.mcexec_run.specs.Booting.{BootFails};
+ghost use Rattle.run_model.specs.Reports.{requests};
+ghost use Rattle.run_model.specs.Walks.{actors, first_chosen, offer};
+ghost use Rattle.run_model.specs.declared.actors.Actor.{Actor};
+ghost use Rattle.run_summary.specs.Summaries.{summary_of};
+ghost use Rattle.std.specs.Prelude.{◌≡◌, ◌≢◌, ◌<◌, ℕ, IfOk, MatchResult, None, OnOk, Some, true};
+
+use elf_load::Image;
+use hybrid_model::{Ending, Event};
+use ihk_parts::Offers;
+use job_text::Job;
+use mck_word::NoMemory;
+use run_summary::Summary;
+use std::alloc::Global;
+
+/// Why a node was not booted: the frames don't suffice for that guest, or want of memory.
+#[derive(Clone, Copy, Debug, PartialEq, Eq)]
+pub enum BootError {
+    NoFrames { guest: u32, needed: u64, free: u64 },
+    NoMemory,
+}
+
+/// The two kernels of a node.
+pub trait Machine: Offers + Drop {
+    /// Whether room was made for the event.
+    ghost has_room: { Self → Event → Type 0 };
+
+    /// A number that every event lessens.
+    ghost work: { Self → ℕ };
+
+    /// The node at the boot of a job. `NoFrames` names the first guest for which the frames don't suffice.
+    fn boot(alloc: Global, job: &Job, images: &[Image]) -> Result<Self, BootError>
+        requires { IsPrepared job.now images.now }
+        ensures state { IfOk result (λ machine. Self.pair machine ≡ boot job.now images.now) }
+        ensures frames { MatchResult result (λ _. shortage job.now images.now ≡ None) (λ e. BootFails e (shortage job.now images.now)) };
+
+    /// Makes room for the event. The state stays, also when it is refused. An event that an actor offers may happen.
+    fn make_room(&mut self, event: &Event) -> Result<(), NoMemory>
+        ensures offered { (actor : Actor) → offer (Self.pair self.old) actor ≡ Some event.now → may (Self.pair self.old) event.now ≡ true }
+        ensures state { Self.pair self.new ≡ Self.pair self.old }
+        ensures work { work self.new ≡ work self.old }
+        ensures room { OnOk result (has_room self.new event.now) };
+
+    /// The event happens.
+    fn apply(&mut self, event: &Event)
+        requires may { may (Self.pair self.old) event.now ≡ true }
+        requires room { has_room self.old event.now }
+        ensures state { Self.pair self.new ≡ after (Self.pair self.old) event.now }
+        ensures work { work self.new < work self.old };
+
+    /// How the run stands. Where no actor has an offer, it is over.
+    fn ending(&self) -> Ending
+        ensures value { result ≡ ending (Self.pair self.now) }
+        ensures over { first_chosen (Self.pair self.now) (actors (Self.pair self.now)) ≡ None → ending (Self.pair self.now) ≢ Unfinished };
+
+    /// How many requests were numbered in all processes.
+    fn requests(&self) -> u64
+        ensures { result ≡ requests (Self.pair self.now) };
+
+    /// What a report says of the state.
+    fn summary(&self) -> Result<Summary, NoMemory>
+        ensures { IfOk result (λ summary. summary ≡ summary_of (one (Self.pair self.now))) };
+}
