@@ -40,6 +40,7 @@ outside_each f other (suc n) low j sp o = outside_each f other n (suc low) j (f 
   where
     narrower : (n low j : ℕ) → in_range (range low (low + suc n)) j ≡ false → in_range (range (suc low) (suc low + n)) j ≡ false
     narrower n low j o = grind (arith, nat_tests, o)
+
     not_low : (n low j : ℕ) → in_range (range low (low + suc n)) j ≡ false → (j == low) ≡ false
     not_low n low j o = grind (arith, nat_tests, o)
 
@@ -88,9 +89,11 @@ module _ (tables : ℕ → Reads Row) (p i : ℕ) (rights : Rights) (sp : Space)
       own : (d : Bool) → (j == i) ≡ d → (if d then Some new_row else at sp.table j) ≡ Some r → ((j ≡ i) × (r ≡ new_row)) ⊎ (at sp.table j ≡ Some r)
       own true g k = inl (grind (arith, nat_tests, g), (let s : new_row ≡ r = cc in sym s))
       own false g k = inr k
+
       as-own : q ≡ p → ((j ≡ i) × (r ≡ new_row)) ⊎ (at sp.table j ≡ Some r) → ((q ≡ p) × (j ≡ i) × (r ≡ new_row)) ⊎ (at sp.table j ≡ Some r)
       as-own f (inl x) = inl (f, x.0, x.1)
       as-own f (inr x) = inr x
+
       go : (b : Bool) → (q == p) ≡ b → (if b then with_at (at sp.table) i (Some new_row) else tables q) j ≡ Some r → ((q ≡ p) × (j ≡ i) × (r ≡ new_row)) ⊎ ((if b then at sp.table else tables q) j ≡ Some r)
       go true f k = as-own (grind (arith, nat_tests, f)) (own (j == i) refl k)
       go false f k = inr k
@@ -102,15 +105,20 @@ module _ (tables : ℕ → Reads Row) (p i : ℕ) (rights : Rights) (sp : Space)
   added = record {
     not_free = λ q j r e. elim (was-or-new q j r e) [
       | inl x ↦ ap (λ (z : Row). copies z.0.0 free) x.2 ∙ rising-above f free rising
-      | inr x ↦ copies-first r.0.0 f free (rw first at (c.not_free q j r x)) ];
+      | inr x ↦ copies-first r.0.0 f free (rw first at (c.not_free q j r x))
+    ];
     apart = λ q j r q' j' r' e e' g. elim (was-or-new q j r e) [
       | inl x ↦ elim (was-or-new q' j' r' e') [
         | inl y ↦ (x.0 ∙ sym y.0, x.1 ∙ sym y.1)
-        | inr y ↦ absurd (old-not q' j' r' y (ap (λ (z : Frame). z.0) (sym g) ∙ ap (λ (z : Row). z.0.0) x.2)) ]
+        | inr y ↦ absurd (old-not q' j' r' y (ap (λ (z : Frame). z.0) (sym g) ∙ ap (λ (z : Row). z.0.0) x.2))
+      ]
       | inr x ↦ elim (was-or-new q' j' r' e') [
         | inl y ↦ absurd (old-not q j r x (ap (λ (z : Frame). z.0) g ∙ ap (λ (z : Row). z.0.0) y.2))
-        | inr y ↦ c.apart q j r q' j' r' x y g ] ];
-    rising = rising-rest f free rising }
+        | inr y ↦ c.apart q j r q' j' r' x y g
+      ]
+    ];
+    rising = rising-rest f free rising;
+  }
 
 pub frames_add : (tables : ℕ → Reads Row) (p i : ℕ) (rights : Rights) (sp : Space) → 1 ≤ length sp.free → Frames (with_table tables p (at sp.table)) sp.free → Frames (with_table tables p (at (add_page rights i sp).table)) (add_page rights i sp).free
 unfolding add_page
@@ -123,18 +131,22 @@ frames_add tables p i rights sp l c = go sp.free refl
 pub frames_protect : (tables : ℕ → Reads Row) (p i : ℕ) (rights : Rights) (sp : Space) → Frames (with_table tables p (at sp.table)) sp.free → Frames (with_table tables p (at (protect_page rights i sp).table)) (protect_page rights i sp).free
 unfolding protect_page
 frames_protect tables p i rights sp c = record {
-    not_free = λ q j r e. let w = was q j r e in ap (λ (z : Frame). copies z.0 sp.free) w.2 ∙ c.not_free q j w.0 w.1;
-    apart = λ q j r q' j' r' e e' g. (let w = was q j r e in let v = was q' j' r' e' in c.apart q j w.0 q' j' v.0 w.1 v.1 (sym w.2 ∙ g ∙ v.2));
-    rising = c.rising }
+  not_free = λ q j r e. let w = was q j r e in ap (λ (z : Frame). copies z.0 sp.free) w.2 ∙ c.not_free q j w.0 w.1;
+  apart = λ q j r q' j' r' e e' g. (let w = was q j r e in let v = was q' j' r' e' in c.apart q j w.0 q' j' v.0 w.1 v.1 (sym w.2 ∙ g ∙ v.2));
+  rising = c.rising;
+}
   where
     changed : (j : ℕ) → at (change sp.table i (λ (r : Row). (r.0, rights))) j ≡ cond (j == i) (option_map (λ (r : Row). (r.0, rights)) (at sp.table i)) (at sp.table j)
     changed j = at-change sp.table i (λ (r : Row). (r.0, rights)) j
+
     row : (o : Option Row) (r : Row) → option_map (λ (r : Row). (r.0, rights)) o ≡ Some r → (x : Row) × (o ≡ Some x) × (r.0 ≡ x.0)
     row None r e = absurd (grind (arith, e))
     row (Some x) r e = let s : (x.0, rights) ≡ r = cc in (x, refl, ap (λ (z : Row). z.0) (sym s))
+
     here : (j : ℕ) (r : Row) (d : Bool) → (j == i) ≡ d → cond d (option_map (λ (r : Row). (r.0, rights)) (at sp.table i)) (at sp.table j) ≡ Some r → (x : Row) × (at sp.table j ≡ Some x) × (r.0 ≡ x.0)
     here j r true e k = let x = row (at sp.table i) r k in let g : j ≡ i = grind (arith, nat_tests, e) in (x.0, ap (at sp.table) g ∙ x.1, x.2)
     here j r false e k = (r, k, refl)
+
     was : (q j : ℕ) (r : Row) → with_table tables p (at (change sp.table i (λ (r : Row). (r.0, rights)))) q j ≡ Some r → (x : Row) × (with_table tables p (at sp.table) q j ≡ Some x) × (r.0 ≡ x.0)
     was q j r e = go (q == p) refl e
       where
@@ -174,9 +186,9 @@ shown_add rights i sp l n = go sp.free refl
     go : (o : List ℕ) → sp.free ≡ o → one.add_page rights i (shown_space sp) ≡ shown_space (add_page rights i sp)
     go [] e = absurd (let k = rw e at l in omega (arith, k))
     go (f ∷ free) e =
-      let a = shown_lowest i rights sp f free e (λ j r k g. (let z = rw e at (n j r k) in grind (arith, nat_tests, z, g))) zero_page in
-      let b : length (f ∷ free) - 1 ≡ length free = less (length free) in
-      rw e (λ k. record { memory = a k; free = b k })
+        let a = shown_lowest i rights sp f free e (λ j r k g. (let z = rw e at (n j r k) in grind (arith, nat_tests, z, g))) zero_page in
+        let b : length (f ∷ free) - 1 ≡ length free = less (length free) in
+        rw e (λ k. record { memory = a k; free = b k })
       where
         less : (n : ℕ) → suc n - 1 ≡ n
         less n = omega arith
@@ -196,6 +208,7 @@ shown_protect rights i sp = let a = changes in λ k. record { memory = a k; free
         own : (o : Option Row) → option_map (λ (x : Page). record x { rights = rights }) (and_then o (λ v. Some (shown_row sp.frames v))) ≡ and_then (option_map (λ (r : Row). (r.0, rights)) o) (λ v. Some (shown_row sp.frames v))
         own None = refl
         own (Some r) = refl
+
         row : (b : Bool) (o q : Option Row) → cond b (option_map (λ (x : Page). record x { rights = rights }) (and_then o (λ v. Some (shown_row sp.frames v)))) (and_then q (λ v. Some (shown_row sp.frames v))) ≡ and_then (cond b (option_map (λ (r : Row). (r.0, rights)) o) q) (λ v. Some (shown_row sp.frames v))
         row true o q = own o
         row false o q = refl

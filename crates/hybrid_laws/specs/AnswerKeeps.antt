@@ -51,7 +51,8 @@ module _ (table mirror : Reads Row) (pins : Reads Pin) (begun cleared : ℕ) (ro
     mirror_rows = c.mirror_rows;
     answers = EachRing-post (AnswerCovered table cleared) r (Answer w page begun (looked_up (table page) a)) rings c.answers (answer-covered (looked_up (table page) a) refl);
     not_ahead = EachRing-post (NotAhead begun) r (Answer w page begun (looked_up (table page) a)) rings c.not_ahead (omega arith);
-    pin_rows = c.pin_rows }
+    pin_rows = c.pin_rows;
+  }
 
   pub rounded_answer : (o : Option Row) → closes round page ≡ false → Rounded round mirror pins begun cleared rings bs → Rounded round mirror pins begun cleared (post r (Answer w page begun o) rings) bs
   rounded_answer o c d = record {
@@ -60,20 +61,26 @@ module _ (table mirror : Reads Row) (pins : Reads Pin) (begun cleared : ℕ) (ro
     clear_of = EachRing-post (ClearIsOf round) r (Answer w page begun o) rings d.clear_of (answer-clear round w page begun o);
     fetched = d.fetched;
     outside = EachRing-post (IsOutside round begun) r (Answer w page begun o) rings d.outside (answer-outside o c);
-    mirror_outside = d.mirror_outside; pins_outside = d.pins_outside }
+    mirror_outside = d.mirror_outside;
+    pins_outside = d.pins_outside;
+  }
 
 module _ (worker_count : ℕ) (workers : Reads ℕ) (rows : Reads (ReqState × Call)) (services : Reads Service) (pins : Reads Pin) (waiting : List ℕ) (noted : Reads Noted) (rings : List (List Msg)) (bs : List Msg) (s : Served worker_count workers rows services pins waiting noted rings bs) (w : ℕ) (n : Noted) (there : noted w ≡ Some n)
-  (r number : ℕ) (o : Option Row) (right : (x : Row) → o ≡ Some x → allows n.1 x.1 ≡ true) where
+    (r number : ℕ) (o : Option Row) (right : (x : Row) → o ≡ Some x → allows n.1 x.1 ≡ true) where
   pub served_answer : Served worker_count workers rows services pins waiting (with_at noted w None) (post r (Answer w n.0 number o) rings) bs
   served_answer = record {
     worker_below = s.worker_below;
     requests = λ q. omega (arith, sum-post (asks q) r (Answer w n.0 number o) rings, s.requests q);
-    waits = s.waits; known = s.known; workers_hold = s.workers_hold; held_by = s.held_by;
+    waits = s.waits;
+    known = s.known;
+    workers_hold = s.workers_hold;
+    held_by = s.held_by;
     faults = λ v. (let t = sum-post (answers_to v) r (Answer w n.0 number o) rings in grind (arith, nat_tests, t, there, s.faults v));
     fault_for = s.fault_for;
     noted_for = λ v m e. note (v == w) v m e;
     answer_for = EachRing-post (AnswerIsFor workers services) r (Answer w n.0 number o) rings s.answer_for (record { access = n.1; next = s.noted_for w n there; right = right });
-    pins_serve = s.pins_serve }
+    pins_serve = s.pins_serve;
+  }
     where
       note : (b : Bool) (v : ℕ) (m : Noted) → (if b then None else noted v) ≡ Some m → IsForNext workers services v m.0 m.1
       note false v m e = s.noted_for v m e
@@ -96,21 +103,23 @@ module _ (p : ℕ) (side : Side) (node : Node) (workers : ℕ) (ring : ℕ → �
   pub keeps_post_answer : OfProcess p (post_answer r w side) node workers ring
   unfolding post_answer
   keeps_post_answer =
-    let n = m.noted in
-    let there = m.there in
-    let o = looked_up (at side.lwk.table n.0) n.1 in
-    let c = reads-cut side.lwk.noted w in
-    rw there (record {
-      covered = covered_answer (at side.lwk.table) (at side.linux.mirror) (at side.linux.pins) side.lwk.begun side.linux.cleared side.round side.to_linux side.to_lwk r w n.0 n.1 k.covered;
-      rounded = rounded_answer (at side.lwk.table) (at side.linux.mirror) (at side.linux.pins) side.lwk.begun side.linux.cleared side.round side.to_linux side.to_lwk r w n.0 n.1 o m.outside k.rounded;
-      owned = k.owned;
-      served = rw c (served_answer workers (at side.linux.workers) (at side.book.rows) (at side.linux.services) (at side.linux.pins) side.book.waiting (at side.lwk.noted) side.to_linux side.to_lwk k.served w n there r side.lwk.begun o (λ x e. (looked-is (at side.lwk.table n.0) n.1 x e).1));
-      answered = k.answered; calls = k.calls;
-      asked = EachRing-post (RequestIs (at side.book.rows)) r (Answer w n.0 side.lwk.begun o) side.to_linux k.asked tt;
-      interrupts = EachRing-post (InterruptIs side.book.next (at side.book.rows) (at node.threads)) r (Answer w n.0 side.lwk.begun o) side.to_linux k.interrupts tt;
-      directions = record { to_linux = EachRing-post (λ x. goes_to_linux x ≡ true) r (Answer w n.0 side.lwk.begun o) side.to_linux k.directions.to_linux refl; to_lwk = k.directions.to_lwk };
-      messages = Messages-post (at side.book.rows) (at node.threads) ring (at side.lwk.callers) (Answer w n.0 side.lwk.begun o) (λ threads j. refl) (λ j. tt) r side.to_linux k.messages;
-      marked = Marked-post (at side.linux.services) (at side.lwk.callers) r (Answer w n.0 side.lwk.begun o) side.to_linux (λ q. refl) k.marked })
+      let n = m.noted in
+      let there = m.there in
+      let o = looked_up (at side.lwk.table n.0) n.1 in
+      let c = reads-cut side.lwk.noted w in
+      rw there (record {
+        covered = covered_answer (at side.lwk.table) (at side.linux.mirror) (at side.linux.pins) side.lwk.begun side.linux.cleared side.round side.to_linux side.to_lwk r w n.0 n.1 k.covered;
+        rounded = rounded_answer (at side.lwk.table) (at side.linux.mirror) (at side.linux.pins) side.lwk.begun side.linux.cleared side.round side.to_linux side.to_lwk r w n.0 n.1 o m.outside k.rounded;
+        owned = k.owned;
+        served = rw c (served_answer workers (at side.linux.workers) (at side.book.rows) (at side.linux.services) (at side.linux.pins) side.book.waiting (at side.lwk.noted) side.to_linux side.to_lwk k.served w n there r side.lwk.begun o (λ x e. (looked-is (at side.lwk.table n.0) n.1 x e).1));
+        answered = k.answered;
+        calls = k.calls;
+        asked = EachRing-post (RequestIs (at side.book.rows)) r (Answer w n.0 side.lwk.begun o) side.to_linux k.asked tt;
+        interrupts = EachRing-post (InterruptIs side.book.next (at side.book.rows) (at node.threads)) r (Answer w n.0 side.lwk.begun o) side.to_linux k.interrupts tt;
+        directions = record { to_linux = EachRing-post (λ x. goes_to_linux x ≡ true) r (Answer w n.0 side.lwk.begun o) side.to_linux k.directions.to_linux refl; to_lwk = k.directions.to_lwk };
+        messages = Messages-post (at side.book.rows) (at node.threads) ring (at side.lwk.callers) (Answer w n.0 side.lwk.begun o) (λ threads j. refl) (λ j. tt) r side.to_linux k.messages;
+        marked = Marked-post (at side.linux.services) (at side.lwk.callers) r (Answer w n.0 side.lwk.begun o) side.to_linux (λ q. refl) k.marked;
+      })
 
 module _ (p : ℕ) (q : Pid) (w : ℕ) (h : Here) (m : may_here (Events.Answer q w) h ≡ true) where
   pub may_be_answered : MayAnswer h.side w
@@ -118,9 +127,9 @@ module _ (p : ℕ) (q : Pid) (w : ℕ) (h : Here) (m : may_here (Events.Answer q
 
   pub keeps_answer : (workers : ℕ) (ring : ℕ → ℕ) → OfProcess p h.side h.node workers ring → OfProcess p (after_here (Events.Answer q w) p h).side (after_here (Events.Answer q w) p h).node workers ring
   keeps_answer workers ring k =
-    let x = keeps_post_answer p h.side h.node workers ring k w (ring_of h (thread_served h.side w)) may_be_answered in
-    record { covered = x.covered; rounded = x.rounded; owned = x.owned; served = x.served; answered = x.answered; calls = x.calls; asked = x.asked; interrupts = x.interrupts; directions = x.directions; messages = x.messages; marked = x.marked }
+      let x = keeps_post_answer p h.side h.node workers ring k w (ring_of h (thread_served h.side w)) may_be_answered in
+      record { covered = x.covered; rounded = x.rounded; owned = x.owned; served = x.served; answered = x.answered; calls = x.calls; asked = x.asked; interrupts = x.interrupts; directions = x.directions; messages = x.messages; marked = x.marked }
 
   pub others_answer : (other : ℕ) (side : Side) (workers : ℕ) (ring : ℕ → ℕ) → OfProcess other side h.node workers ring → OfProcess other side (after_here (Events.Answer q w) p h).node workers ring
   others_answer other side workers ring x =
-    record { covered = x.covered; rounded = x.rounded; owned = x.owned; served = x.served; answered = x.answered; calls = x.calls; asked = x.asked; interrupts = x.interrupts; directions = x.directions; messages = x.messages; marked = x.marked }
+      record { covered = x.covered; rounded = x.rounded; owned = x.owned; served = x.served; answered = x.answered; calls = x.calls; asked = x.asked; interrupts = x.interrupts; directions = x.directions; messages = x.messages; marked = x.marked }

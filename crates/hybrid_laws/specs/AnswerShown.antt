@@ -91,15 +91,20 @@ module _ (p : ℕ) (q : Pid) (w : ℕ) (h : Here) (m : may_here (Events.Answer q
     where
       r : ℕ
       r = ring_of h (thread_served h.side w)
+
       side' : Side
       side' = record h.side { lwk = record h.side.lwk { noted = cut h.side.lwk.noted w }; to_linux = post r (Answer w (noted_of h.side w).0 h.side.lwk.begun (answer_to h.side w)) h.side.to_linux }
+
       none : (x : ℕ) → is_empty_for (at h.side.linux.workers) x (Answer w (noted_of h.side w).0 h.side.lwk.begun (answer_to h.side w)) ≡ false
       none x = ap (λ (o : Option Row). is_empty_for (at h.side.linux.workers) x (Answer w (noted_of h.side w).0 h.side.lwk.begun o)) e
+
       same : shown_own h.frames side' ≡ shown_own h.frames h.side
       same = shown-same h.frames h.side side' refl refl (λ t c f. ap (λ b. status_in (state_in (at h.side.book.rows c.request)) (call_in (at h.side.book.rows c.request)) (unwrap_or (at h.side.linux.services c.request) no_service) b (reply_code c.request h.side.to_lwk))
-        (has_empty-post (at h.side.linux.workers) c.request r (Answer w (noted_of h.side w).0 h.side.lwk.begun (answer_to h.side w)) h.side.to_linux (none c.request)))
+          (has_empty-post (at h.side.linux.workers) c.request r (Answer w (noted_of h.side w).0 h.side.lwk.begun (answer_to h.side w)) h.side.to_linux (none c.request)))
+
       files : files_after_answer (answer_to h.side w) (served h.side.linux w).progress h.node.files ≡ h.node.files
       files = ap (λ (o : Option Row). files_after_answer o (served h.side.linux w).progress h.node.files) e
+
       shown : shown_here (give_answer w h) ≡ shown_here h
       shown = λ i. record { own = same i; node = set_files (files i) h.node; free = length h.free; born = shown_born h.frames h.born }
 
@@ -113,9 +118,9 @@ module _ (p : ℕ) (q : Pid) (w : ℕ) (h : Here) (m : may_here (Events.Answer q
 
     faulting-one : faulting (at h.side.book.rows) (Some number) ≡ 1
     faulting-one =
-      let f = k.served.faults w in
-      let there = n.there in let serves = next.serves in
-      one (faulting (at h.side.book.rows) (Some number)) (rw (there, serves) at f) (at-most (at h.side.book.rows) (Some number))
+        let f = k.served.faults w in
+        let there = n.there in let serves = next.serves in
+        one (faulting (at h.side.book.rows) (Some number)) (rw (there, serves) at f) (at-most (at h.side.book.rows) (Some number))
       where
         one : (x : ℕ) → tally (faults_of w) h.side.to_lwk + 1 + sum_rings (answers_to w) h.side.to_linux ≡ x → x ≤ 1 → x ≡ 1
         one x e l = omega (arith, e, l)
@@ -125,9 +130,9 @@ module _ (p : ℕ) (q : Pid) (w : ℕ) (h : Here) (m : may_here (Events.Answer q
 
     no-answers : sum_rings (answers_to w) h.side.to_linux ≡ 0
     no-answers =
-      let f = k.served.faults w in
-      let there = n.there in let serves = next.serves in
-      zero-of (rw (there, serves) at f)
+        let f = k.served.faults w in
+        let there = n.there in let serves = next.serves in
+        zero-of (rw (there, serves) at f)
       where
         zero-of : tally (faults_of w) h.side.to_lwk + 1 + sum_rings (answers_to w) h.side.to_linux ≡ faulting (at h.side.book.rows) (Some number) → sum_rings (answers_to w) h.side.to_linux ≡ 0
         zero-of e = omega (arith, e, faulting-one)
@@ -138,20 +143,20 @@ module _ (p : ℕ) (q : Pid) (w : ℕ) (h : Here) (m : may_here (Events.Answer q
         go : (o : Option ℕ) → at h.side.linux.workers v ≡ o → serves_it number o ≡ true → v ≡ w
         go None f g = absurd (grind (arith, g))
         go (Some x) f g =
-          let x' : x ≡ number = grind (arith, nat_tests, g) in
-          let a = k.served.workers_hold v number (f ∙ ap Some x') in
-          let b = k.served.workers_hold w number next.serves in
-          let c = sym a ∙ b in
-          grind (arith, c)
+            let x' : x ≡ number = grind (arith, nat_tests, g) in
+            let a = k.served.workers_hold v number (f ∙ ap Some x') in
+            let b = k.served.workers_hold w number next.serves in
+            let c = sym a ∙ b in
+            grind (arith, c)
 
     abbrev progress : Progress
     progress = (service_of h.side.linux.services number).progress
 
     pub status-now : status_of h.side number ≡ Active progress
     status-now =
-      let is = faulted.1 in
-      let e = no_empty (at h.side.linux.workers) number w alone h.side.to_linux no-answers in
-      rw (is, e) refl
+        let is = faulted.1 in
+        let e = no_empty (at h.side.linux.workers) number w alone h.side.to_linux no-answers in
+        rw (is, e) refl
 
     abbrev pub t : ℕ
     t = faulted.0.tid.0
@@ -161,11 +166,11 @@ module _ (p : ℕ) (q : Pid) (w : ℕ) (h : Here) (m : may_here (Events.Answer q
 
     lacks : allows_in (needed_access progress) (at (shown_memory h.side.lwk.table h.frames) (next_piece progress).page) ≡ false
     lacks =
-      let a = next.page_is in let b = next.access_is in
-      ap (λ (x : Access). allows_in x (at (shown_memory h.side.lwk.table h.frames) (next_piece progress).page)) b
-      ∙ ap (λ (i : ℕ). allows_in n.noted.1 (at (shown_memory h.side.lwk.table h.frames) i)) a
-      ∙ ap (allows_in n.noted.1) (at-collect (λ j r. Some (shown_row h.frames r)) h.side.lwk.table n.noted.0)
-      ∙ no-right h.frames n.noted.1 (at h.side.lwk.table n.noted.0) (sym answer-is ∙ none)
+        let a = next.page_is in let b = next.access_is in
+        ap (λ (x : Access). allows_in x (at (shown_memory h.side.lwk.table h.frames) (next_piece progress).page)) b
+        ∙ ap (λ (i : ℕ). allows_in n.noted.1 (at (shown_memory h.side.lwk.table h.frames) i)) a
+        ∙ ap (allows_in n.noted.1) (at-collect (λ j r. Some (shown_row h.frames r)) h.side.lwk.table n.noted.0)
+        ∙ no-right h.frames n.noted.1 (at h.side.lwk.table n.noted.0) (sym answer-is ∙ none)
 
     pub may_fault : OneSteps.may_here (Steps.PieceFault (tid t)) (shown_here h) ≡ true
     may_fault = let s = shown-at in let l = lacks in let b = next.left in rw (s, b, l) refl
@@ -181,15 +186,15 @@ module _ (p : ℕ) (q : Pid) (w : ℕ) (h : Here) (m : may_here (Events.Answer q
 
     pub status-own : status_of side' number ≡ Over (fault_answer progress)
     status-own =
-      let same : (number == number) ≡ true = grind (arith, nat_tests) in
-      let e = has_empty-posted (at h.side.linux.workers) number r (Answer w (noted_of h.side w).0 h.side.lwk.begun (answer_to h.side w)) h.side.to_linux (empty-for number ∙ same) in
-      ap (λ (o : Option (ReqState × Call)). status_in (state_in o) (call_in o) (service_of h.side.linux.services number) (has_empty (at h.side.linux.workers) number side'.to_linux) (reply_code number h.side.to_lwk)) faulted.1
-      ∙ ap (λ b. ended_if b progress) e
+        let same : (number == number) ≡ true = grind (arith, nat_tests) in
+        let e = has_empty-posted (at h.side.linux.workers) number r (Answer w (noted_of h.side w).0 h.side.lwk.begun (answer_to h.side w)) h.side.to_linux (empty-for number ∙ same) in
+        ap (λ (o : Option (ReqState × Call)). status_in (state_in o) (call_in o) (service_of h.side.linux.services number) (has_empty (at h.side.linux.workers) number side'.to_linux) (reply_code number h.side.to_lwk)) faulted.1
+        ∙ ap (λ b. ended_if b progress) e
 
     pub status-other : (x : ℕ) → (x == number) ≡ false → status_of side' x ≡ status_of h.side x
     status-other x e =
-      let d : (number == x) ≡ false = grind (arith, nat_tests, e) in
-      ap (λ b. status_in (state_in (at h.side.book.rows x)) (call_in (at h.side.book.rows x)) (service_of h.side.linux.services x) b (reply_code x h.side.to_lwk))
+        let d : (number == x) ≡ false = grind (arith, nat_tests, e) in
+        ap (λ b. status_in (state_in (at h.side.book.rows x)) (call_in (at h.side.book.rows x)) (service_of h.side.linux.services x) b (reply_code x h.side.to_lwk))
         (has_empty-post (at h.side.linux.workers) x r (Answer w (noted_of h.side w).0 h.side.lwk.begun (answer_to h.side w)) h.side.to_linux (empty-for x ∙ d))
 
     calls : put (each (shown_call h.side) h.side.lwk.callers) t (record { marked = (the-caller p h.side h.node workers ring k number Faulted faulted.0 faulted.1 refl).0.marked; status = Over (fault_answer progress) }) ≡ each (shown_call side') h.side.lwk.callers
@@ -201,7 +206,7 @@ module _ (p : ℕ) (q : Pid) (w : ℕ) (h : Here) (m : may_here (Events.Answer q
     pub leads_fault : OneSteps.after_here (Steps.PieceFault (tid t)) p (shown_here h) ≡ shown_here (give_answer w h)
     unfolding post_answer OneSteps.call_ended
     leads_fault = let s = shown-at in let c = calls in let f = files in
-      rw s (λ i. record { own = record { memory = shown_memory h.side.lwk.table h.frames; calls = c i }; node = set_files (f i) h.node; free = length h.free; born = shown_born h.frames h.born })
+        rw s (λ i. record { own = record { memory = shown_memory h.side.lwk.table h.frames; calls = c i }; node = set_files (f i) h.node; free = length h.free; born = shown_born h.frames h.born })
 
     pub simulated_answer_empty : Simulated (Events.Answer q w) p h
     simulated_answer_empty = simulated-one (Events.Answer q w) p h (Steps.PieceFault (tid t)) image may_fault leads_fault

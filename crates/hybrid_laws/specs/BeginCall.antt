@@ -31,11 +31,14 @@ module _ (round : Option Round) (table mirror : Reads Row) (pins : Reads Pin) (b
 
   pub rounded-call : Rounded round mirror pins begun cleared rings bs → Rounded round mirror pins begun cleared (post r (Request c) rings) bs
   rounded-call h = record {
-    clears_are = omega (arith, sum-post clears r (Request c) rings, h.clears_are); acks_are = h.acks_are;
+    clears_are = omega (arith, sum-post clears r (Request c) rings, h.clears_are);
+    acks_are = h.acks_are;
     clear_of = EachRing-post (ClearIsOf round) r (Request c) rings h.clear_of (request-clears round c);
     fetched = h.fetched;
     outside = EachRing-post (IsOutside round begun) r (Request c) rings h.outside (request-outside round begun c);
-    mirror_outside = h.mirror_outside; pins_outside = h.pins_outside }
+    mirror_outside = h.mirror_outside;
+    pins_outside = h.pins_outside;
+  }
 
 -- ---- requests
 module _ (worker_count : ℕ) (workers : Reads ℕ) (rows : Reads (ReqState × Call)) (services : Reads Service) (pins : Reads Pin) (waiting : List ℕ) (noted : Reads Noted) (rings : List (List Msg)) (bs : List Msg) (s : Served worker_count workers rows services pins waiting noted rings bs) (r q : ℕ) (c : Call) (number : c.q.0 ≡ q) (fresh : rows q ≡ None) where
@@ -54,7 +57,8 @@ module _ (worker_count : ℕ) (workers : Reads ℕ) (rows : Reads (ReqState × C
     workers_hold = λ v p e. grind (arith, nat_tests, fresh, e, s.workers_hold v p);
     held_by = λ p v e. grind (arith, nat_tests, fresh, e, s.held_by p v);
     faults = λ v. let t = sum-post (answers_to v) r (Request c) rings in grind (arith, nat_tests, t, fresh, s.faults v, s.workers_hold v q);
-    fault_for = s.fault_for; noted_for = s.noted_for;
+    fault_for = s.fault_for;
+    noted_for = s.noted_for;
     answer_for = EachRing-post (AnswerIsFor workers services) r (Request c) rings s.answer_for tt;
     pins_serve = λ v x e. let k = s.pins_serve v x e in PinServes-keeps workers workers rows rows' services services v x k k.serves (grind (arith, nat_tests, fresh, k.not_faulted)) (λ u. (grind (arith, nat_tests, fresh, k.held u), refl));
   }
@@ -72,8 +76,8 @@ module _ (rows : Reads (ReqState × Call)) (callers : Reads Caller) (q : ℕ) (b
 
   awaited-call : (m : Msg) → ReplyIsAwaited rows callers m → ReplyIsAwaited more callers' m
   awaited-call (Reply n code) h =
-    let g = (a.calls h.thread h.caller h.calls).given in
-    record { gone = grind (arith, nat_tests, h.gone, g, h.number); thread = h.thread; caller = h.caller; calls = grind (arith, nat_tests, h.calls, idle); number = h.number }
+      let g = (a.calls h.thread h.caller h.calls).given in
+      record { gone = grind (arith, nat_tests, h.gone, g, h.number); thread = h.thread; caller = h.caller; calls = grind (arith, nat_tests, h.calls, idle); number = h.number }
   awaited-call (Request x) h = tt
   awaited-call (Clear x) h = tt
   awaited-call (Answer v i n row) h = tt
@@ -83,15 +87,16 @@ module _ (rows : Reads (ReqState × Call)) (callers : Reads Caller) (q : ℕ) (b
 
   call-holds : (b : Bool) (u : ℕ) (x : Caller) → (u == t) ≡ b → (if b then Some (record { request = q; marked = false }) else callers u) ≡ Some x → CallHolds more (q + 1) u x.request bs
   call-holds true u x e f =
-    let g : record { request = q; marked = false } ≡ x = cc in
-    let k : u ≡ t = grind (arith, nat_tests, e) in
-    subst (λ (y : Caller). CallHolds more (q + 1) u y.request bs) g (record {
-      given = omega arith;
-      named = λ z. (let same : (q == q) ≡ true = grind (arith, nat_tests) in rw same (tid ∙ sym k));
-      replied = λ z. absurd (grind (arith, nat_tests, z)) })
+      let g : record { request = q; marked = false } ≡ x = cc in
+      let k : u ≡ t = grind (arith, nat_tests, e) in
+      subst (λ (y : Caller). CallHolds more (q + 1) u y.request bs) g (record {
+        given = omega arith;
+        named = λ z. (let same : (q == q) ≡ true = grind (arith, nat_tests) in rw same (tid ∙ sym k));
+        replied = λ z. absurd (grind (arith, nat_tests, z));
+      })
   call-holds false u x e f =
-    let k = a.calls u x f in
-    record { given = omega (arith, k.given); named = λ z. grind (arith, nat_tests, k.given, z, k.named); replied = λ z. k.replied (grind (arith, nat_tests, k.given, z)) }
+      let k = a.calls u x f in
+      record { given = omega (arith, k.given); named = λ z. grind (arith, nat_tests, k.given, z, k.named); replied = λ z. k.replied (grind (arith, nat_tests, k.given, z)) }
 
   number-of : (b : Bool) (u : ℕ) (x : Caller) → (if b then Some (record { request = q; marked = false }) else callers u) ≡ Some x → b ≡ false → x.request < q
   number-of false u x f e = (a.calls u x f).given

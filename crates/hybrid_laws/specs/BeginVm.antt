@@ -44,7 +44,8 @@ module _ (table mirror : Reads Row) (pins : Reads Pin) (begun cleared r : ℕ) (
     mirror_rows = c.mirror_rows;
     answers = EachRing-post (AnswerCovered table cleared) r (Clear range) rings c.answers tt;
     not_ahead = EachRing-post (NotAhead (begun + 1)) r (Clear range) rings (EachRing-map (NotAhead begun) (NotAhead (begun + 1)) rings ahead c.not_ahead) tt;
-    pin_rows = c.pin_rows }
+    pin_rows = c.pin_rows;
+  }
 
   abbrev new : Option Round
   new = Some (RoundPosted, range)
@@ -76,7 +77,8 @@ module _ (table mirror : Reads Row) (pins : Reads Pin) (begun cleared r : ℕ) (
     fetched = omega (arith, d.fetched);
     outside = EachRing-post (IsOutside new (begun + 1)) r (Clear range) rings (EachRing-map (NotAhead begun) (IsOutside new (begun + 1)) rings outside c.not_ahead) tt;
     mirror_outside = λ i k. absurd (grind (arith, k));
-    pins_outside = λ w x e. refl }
+    pins_outside = λ w x e. refl;
+  }
 
 module _ (p : ℕ) (side : Side) (node : Node) (workers : ℕ) (ring : ℕ → ℕ) (h : OfProcess p side node workers ring) (t : ℕ) (x : Thread) (c : Change) (there : at node.threads t ≡ Some x) (own : x.process ≡ p) (does : x.does ≡ InVm c) (none : side.round ≡ None) where
   abbrev range : PageRange
@@ -85,27 +87,32 @@ module _ (p : ℕ) (side : Side) (node : Node) (workers : ℕ) (ring : ℕ → �
   pub keeps_begin_round : OfProcess p (begin_round (ring t) t range side) node workers ring
   unfolding begin_round
   keeps_begin_round =
-    let s = h.served in
-    record {
-      covered = covered-begin (at side.lwk.table) (at side.linux.mirror) (at side.linux.pins) side.lwk.begun side.linux.cleared (ring t) range side.to_linux side.to_lwk h.covered;
-      rounded = rounded-begin (at side.lwk.table) (at side.linux.mirror) (at side.linux.pins) side.lwk.begun side.linux.cleared (ring t) range side.to_linux side.to_lwk h.covered (rw none at h.rounded);
-      owned = record { thread = x; there = there; own = own; change = c; does = does; range_is = refl };
-      served = record {
-        worker_below = s.worker_below;
-        requests = λ q. omega (arith, sum-post (asks q) (ring t) (Clear range) side.to_linux, s.requests q);
-        waits = s.waits; known = s.known; workers_hold = s.workers_hold; held_by = s.held_by;
-        faults = λ w. omega (arith, sum-post (answers_to w) (ring t) (Clear range) side.to_linux, s.faults w);
-        fault_for = s.fault_for; noted_for = s.noted_for;
-        answer_for = EachRing-post (AnswerIsFor (at side.linux.workers) (at side.linux.services)) (ring t) (Clear range) side.to_linux s.answer_for tt;
-        pins_serve = s.pins_serve };
-      answered = h.answered;
-      calls = h.calls;
-      asked = EachRing-post (RequestIs (at side.book.rows)) (ring t) (Clear range) side.to_linux h.asked tt;
-      interrupts = EachRing-post (InterruptIs side.book.next (at side.book.rows) (at node.threads)) (ring t) (Clear range) side.to_linux h.interrupts tt;
-      directions = record { to_linux = EachRing-post (λ m. goes_to_linux m ≡ true) (ring t) (Clear range) side.to_linux h.directions.to_linux refl; to_lwk = h.directions.to_lwk };
-      messages = Messages-post (at side.book.rows) (at node.threads) ring (at side.lwk.callers) (Clear range) (λ threads k. refl) (λ k. tt) (ring t) side.to_linux h.messages;
-      marked = Marked-post (at side.linux.services) (at side.lwk.callers) (ring t) (Clear range) side.to_linux (λ q. refl) h.marked;
-    }
+      let s = h.served in
+      record {
+        covered = covered-begin (at side.lwk.table) (at side.linux.mirror) (at side.linux.pins) side.lwk.begun side.linux.cleared (ring t) range side.to_linux side.to_lwk h.covered;
+        rounded = rounded-begin (at side.lwk.table) (at side.linux.mirror) (at side.linux.pins) side.lwk.begun side.linux.cleared (ring t) range side.to_linux side.to_lwk h.covered (rw none at h.rounded);
+        owned = record { thread = x; there = there; own = own; change = c; does = does; range_is = refl };
+        served = record {
+          worker_below = s.worker_below;
+          requests = λ q. omega (arith, sum-post (asks q) (ring t) (Clear range) side.to_linux, s.requests q);
+          waits = s.waits;
+          known = s.known;
+          workers_hold = s.workers_hold;
+          held_by = s.held_by;
+          faults = λ w. omega (arith, sum-post (answers_to w) (ring t) (Clear range) side.to_linux, s.faults w);
+          fault_for = s.fault_for;
+          noted_for = s.noted_for;
+          answer_for = EachRing-post (AnswerIsFor (at side.linux.workers) (at side.linux.services)) (ring t) (Clear range) side.to_linux s.answer_for tt;
+          pins_serve = s.pins_serve;
+        };
+        answered = h.answered;
+        calls = h.calls;
+        asked = EachRing-post (RequestIs (at side.book.rows)) (ring t) (Clear range) side.to_linux h.asked tt;
+        interrupts = EachRing-post (InterruptIs side.book.next (at side.book.rows) (at node.threads)) (ring t) (Clear range) side.to_linux h.interrupts tt;
+        directions = record { to_linux = EachRing-post (λ m. goes_to_linux m ≡ true) (ring t) (Clear range) side.to_linux h.directions.to_linux refl; to_lwk = h.directions.to_lwk };
+        messages = Messages-post (at side.book.rows) (at node.threads) ring (at side.lwk.callers) (Clear range) (λ threads k. refl) (λ k. tt) (ring t) side.to_linux h.messages;
+        marked = Marked-post (at side.linux.services) (at side.lwk.callers) (ring t) (Clear range) side.to_linux (λ q. refl) h.marked;
+      }
 
 pub image_begin_vm : (frames : Map (List ℕ)) (side : Side) (r t : ℕ) (range : PageRange) → shown_own frames (begin_round r t range side) ≡ shown_own frames side
 unfolding begin_round
@@ -131,13 +138,13 @@ pub record MayBegin (t : ℕ) (h : Here) : Type 0 where
 
 pub may-begin : (t : ℕ) (h : Here) → may_begin_vm t h ≡ true → MayBegin t h
 may-begin t h e =
-  let x = thread_of h.node t in
-  let a = both (is_some (at h.node.threads t) && is_some (change_in x.does) && is_living h.node x.process) (is_none h.side.round) e in
-  let b = both (is_some (at h.node.threads t) && is_some (change_in x.does)) (is_living h.node x.process) a.0 in
-  let c = both (is_some (at h.node.threads t)) (is_some (change_in x.does)) b.0 in
-  let y = some-is (at h.node.threads t) c.0 in
-  let d = some-is (change_in x.does) c.1 in
-  record { thread = y.0; there = y.1; change = d.0; does = change-is y.0.does d.0 (ap (λ (z : Thread). change_in z.does) (sym (thread-is h.node t y.0 y.1)) ∙ d.1); none = none-is h.side.round a.1 }
+    let x = thread_of h.node t in
+    let a = both (is_some (at h.node.threads t) && is_some (change_in x.does) && is_living h.node x.process) (is_none h.side.round) e in
+    let b = both (is_some (at h.node.threads t) && is_some (change_in x.does)) (is_living h.node x.process) a.0 in
+    let c = both (is_some (at h.node.threads t)) (is_some (change_in x.does)) b.0 in
+    let y = some-is (at h.node.threads t) c.0 in
+    let d = some-is (change_in x.does) c.1 in
+    record { thread = y.0; there = y.1; change = d.0; does = change-is y.0.does d.0 (ap (λ (z : Thread). change_in z.does) (sym (thread-is h.node t y.0 y.1)) ∙ d.1); none = none-is h.side.round a.1 }
 
 module _ (p : ℕ) (t : Tid) (h : Here) (m : may_here (Events.BeginVm t) h ≡ true) (mine : (thread_of h.node t.0).process ≡ p) where
   abbrev w : MayBegin t.0 h
@@ -148,12 +155,12 @@ module _ (p : ℕ) (t : Tid) (h : Here) (m : may_here (Events.BeginVm t) h ≡ t
 
   pub keeps_begin_vm : (workers : ℕ) → OfProcess p h.side h.node workers (ring_of h) → OfProcess p (after_here (Events.BeginVm t) p h).side (after_here (Events.BeginVm t) p h).node workers (ring_of h)
   keeps_begin_vm workers k = subst (λ (o : Option Change). OfProcess p (begin_vm_of p t.0 o h).side (begin_vm_of p t.0 o h).node workers (ring_of h)) (sym change-here)
-    (keeps_begin_round p h.side h.node workers (ring_of h) k t.0 w.thread w.change w.there (sym (ap (λ (z : Thread). z.process) (thread-is h.node t.0 w.thread w.there)) ∙ mine) w.does w.none)
+      (keeps_begin_round p h.side h.node workers (ring_of h) k t.0 w.thread w.change w.there (sym (ap (λ (z : Thread). z.process) (thread-is h.node t.0 w.thread w.there)) ∙ mine) w.does w.none)
 
   pub others_begin_vm : (q : ℕ) (side : Side) (workers : ℕ) (ring : ℕ → ℕ) → OfProcess q side h.node workers ring → OfProcess q side (after_here (Events.BeginVm t) p h).node workers ring
   others_begin_vm q side workers ring k = subst (λ (o : Option Change). OfProcess q side (begin_vm_of p t.0 o h).node workers ring) (sym change-here) k
 
   pub simulated_begin_vm : Simulated (Events.BeginVm t) p h
   simulated_begin_vm = simulated-none (Events.BeginVm t) p h refl
-    (ap (λ (o : Option Change). shown_here (begin_vm_of p t.0 o h)) change-here
+      (ap (λ (o : Option Change). shown_here (begin_vm_of p t.0 o h)) change-here
       ∙ (let s = image_begin_vm h.frames h.side (ring_of h t.0) t.0 (closing_range (process_of h.node p) w.change) in λ i. record { own = s i; node = h.node; free = length h.free; born = shown_born h.frames h.born }))

@@ -81,13 +81,13 @@ start job = record { sides = no_rows; frames = zero_frames (count_from 0 job.fra
 
 grown-start : (job : Job) → Grown 1 job.frames job.rings (start job)
 grown-start job = record {
-    frames = record { not_free = λ p i r e. absurd (no-row p i r e); apart = λ p i r q j t e f g. absurd (no-row p i r e); rising = rising-from 0 job.frames };
-    rows_below = λ p i r e. absurd (no-row p i r e);
-    free_below = λ f l. (let a = copies-from f 0 job.frames l in omega (arith, a));
-    counted = (let a = length-from 0 job.frames in let b = zero-total rows_of no_rows (λ k v e. absurd (no-at k v e)) in omega (arith, a, b));
-    new = λ q l. at-none q;
-    fresh = λ q s e. absurd (no-at q s e);
-  }
+  frames = record { not_free = λ p i r e. absurd (no-row p i r e); apart = λ p i r q j t e f g. absurd (no-row p i r e); rising = rising-from 0 job.frames };
+  rows_below = λ p i r e. absurd (no-row p i r e);
+  free_below = λ f l. (let a = copies-from f 0 job.frames l in omega (arith, a));
+  counted = (let a = length-from 0 job.frames in let b = zero-total rows_of no_rows (λ k v e. absurd (no-at k v e)) in omega (arith, a, b));
+  new = λ q l. at-none q;
+  fresh = λ q s e. absurd (no-at q s e);
+}
   where
     no-row : (p i : ℕ) (r : Row) → tables_in no_rows p i ≡ Some r → ⊥
     no-row p i r e = no-at i r (sym (ap (λ (o : Option Side). at (unwrap_or o (new_side 0)).lwk.table i) (at-none p)) ∙ e)

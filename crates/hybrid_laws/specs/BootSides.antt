@@ -139,13 +139,13 @@ module _ (limit rings : ℕ) (b : Booted) (g : Guest) (grown : Grown g.number li
 
   pub grown-more : Grown (p + 1) limit rings now
   grown-more = record {
-      frames = subst (λ (t : ℕ → Reads Row). Frames t sp.free) (sym tables-now) copied-frames;
-      rows_below = subst (λ (t : ℕ → Reads Row). (q i : ℕ) (r : Row) → t q i ≡ Some r → r.0.0 < limit) (sym tables-now) (λ q i r e. below q i r (q == p) e);
-      free_below = under.free;
-      counted = counts;
-      new = λ q l. at-put b.sides p side q ∙ (let d : (q == p) ≡ false = grind (arith, nat_tests, l) in ap (λ x. cond x (Some side) (at b.sides q)) d) ∙ grown.new q (omega (arith, l));
-      fresh = λ q s e. fresh-now q s (q == p) (sym (at-put b.sides p side q) ∙ e);
-    }
+    frames = subst (λ (t : ℕ → Reads Row). Frames t sp.free) (sym tables-now) copied-frames;
+    rows_below = subst (λ (t : ℕ → Reads Row). (q i : ℕ) (r : Row) → t q i ≡ Some r → r.0.0 < limit) (sym tables-now) (λ q i r e. below q i r (q == p) e);
+    free_below = under.free;
+    counted = counts;
+    new = λ q l. at-put b.sides p side q ∙ (let d : (q == p) ≡ false = grind (arith, nat_tests, l) in ap (λ x. cond x (Some side) (at b.sides q)) d) ∙ grown.new q (omega (arith, l));
+    fresh = λ q s e. fresh-now q s (q == p) (sym (at-put b.sides p side q) ∙ e);
+  }
     where
       below : (q i : ℕ) (r : Row) (x : Bool) → (if x then at sp.table else tables_in b.sides q) i ≡ Some r → r.0.0 < limit
       below q i r true e = under.rows i r e
@@ -172,9 +172,9 @@ module _ (limit rings : ℕ) (b : Booted) (g : Guest) (grown : Grown g.number li
   other-shown : (q : ℕ) (s : Side) → at b.sides q ≡ Some s → shown_own sp.frames s ≡ shown_own b.frames s
   other-shown q s e =
       let a = each-same (shown_row sp.frames) (shown_row b.frames) s.lwk.table (λ j r f.
-          (let n = grown.frames.not_free q j r (ap (λ (o : Option Side). at (unwrap_or o (new_side 0)).lwk.table j) e ∙ f) in
-          let k = ap (λ (o : Option (List ℕ)). unwrap_or o zero_page) (bytes_copied (tables_in b.sides) p pages r.0.0 begins fits n) in
-          λ i. record { rights = r.1; bytes = k i })) in
+      (let n = grown.frames.not_free q j r (ap (λ (o : Option Side). at (unwrap_or o (new_side 0)).lwk.table j) e ∙ f) in
+      let k = ap (λ (o : Option (List ℕ)). unwrap_or o zero_page) (bytes_copied (tables_in b.sides) p pages r.0.0 begins fits n) in
+      λ i. record { rights = r.1; bytes = k i })) in
       λ i. record { memory = a i; calls = each (shown_call s) s.lwk.callers }
 
   pub shown-more : (q : ℕ) → at (each (shown_own now.frames) now.sides) q ≡ cond (q == p) (Some (guest_own g)) (at (each (shown_own b.frames) b.sides) q)
@@ -243,7 +243,7 @@ all-guests (a ∷ as_) (image ∷ images) n limit rings b grown e = go (nat_lt (
   where
     go : (x : Bool) → nat_lt (length b.free) (needed_frames image) ≡ x → cond x (Some (record { guest = n; needed = needed_frames image; free = length b.free })) (shortage_from (length b.free - needed_frames image) (guests_from (n + 1) as_ images)) ≡ None
         → (Grown (n + 1) limit rings (with_guest rings b (record { number = n; arguments = a.args; image = image })) → shortage_from (length (with_guest rings b (record { number = n; arguments = a.args; image = image })).free) (guests_from (n + 1) as_ images) ≡ None
-            → Guests (guests_from (n + 1) as_ images) (n + 1) limit rings (with_guest rings b (record { number = n; arguments = a.args; image = image })) (fold (with_guest rings) (with_guest rings b (record { number = n; arguments = a.args; image = image })) (guests_from (n + 1) as_ images)))
+        → Guests (guests_from (n + 1) as_ images) (n + 1) limit rings (with_guest rings b (record { number = n; arguments = a.args; image = image })) (fold (with_guest rings) (with_guest rings b (record { number = n; arguments = a.args; image = image })) (guests_from (n + 1) as_ images)))
         → Guests (guests_from n (a ∷ as_) (image ∷ images)) n limit rings b (fold (with_guest rings) b (guests_from n (a ∷ as_) (image ∷ images)))
     go true f k i = absurd (grind (arith, k))
     go false f k i =
@@ -251,7 +251,7 @@ all-guests (a ∷ as_) (image ∷ images) n limit rings b grown e = go (nat_lt (
         let enough : count (guest_memory image a.args) ≤ length b.free = grind (arith, nat_tests, f, most) in
         let over = left-over limit rings b (record { number = n; arguments = a.args; image = image }) grown enough in
         let rest = i (grown-more limit rings b (record { number = n; arguments = a.args; image = image }) grown enough)
-            (suffices (guests_from (n + 1) as_ images) (length b.free - needed_frames image) (length (with_guest rings b (record { number = n; arguments = a.args; image = image })).free) (omega (arith, over, most)) k) in
+        (suffices (guests_from (n + 1) as_ images) (length b.free - needed_frames image) (length (with_guest rings b (record { number = n; arguments = a.args; image = image })).free) (omega (arith, over, most)) k) in
         record {
           last = rest.last;
           grown = rest.grown;

@@ -97,24 +97,24 @@ module _ (t : ℕ) (R Q : Node → Node → Type 0) (k : Closed t R Q) where
 
   pub for_thread-closed : (node : Node) (u signal : ℕ) → R node (generate_for_thread u signal node)
   for_thread-closed node u signal = either (ignores (process_of node (thread_of node u).process) signal) (k.same node)
-    (k.quiet node u (λ x. record x { pending = with_signal signal x.pending }) (record { process = λ x. refl; place = λ x. refl; does = λ x. refl }))
+      (k.quiet node u (λ x. record x { pending = with_signal signal x.pending }) (record { process = λ x. refl; place = λ x. refl; does = λ x. refl }))
 
   pub taken-closed : (node : Node) (u signal : ℕ) → R node (taken u signal node)
   taken-closed node u signal = either (has signal (thread_of node u).pending)
-    (k.quiet node u (λ y. record y { pending = without_signal signal y.pending }) (record { process = λ x. refl; place = λ x. refl; does = λ x. refl }))
-    (k.process node (thread_of node u).process (λ x. record x { pending = without_signal signal x.pending }) (record { heap = λ x. refl; limit = λ x. refl; instructions = λ x. refl; ended = λ x. refl }))
+      (k.quiet node u (λ y. record y { pending = without_signal signal y.pending }) (record { process = λ x. refl; place = λ x. refl; does = λ x. refl }))
+      (k.process node (thread_of node u).process (λ x. record x { pending = without_signal signal x.pending }) (record { heap = λ x. refl; limit = λ x. refl; instructions = λ x. refl; ended = λ x. refl }))
 
   pub moved-closed : (node : Node) (u : ℕ) → R node (moved_to_own u node)
   moved-closed node u = go (next_signal node u)
     where
-      go : (o : Option ℕ) → R node (elim o as (λ _. Node) [ | None ↦ node | Some signal ↦ change_thread u (λ (y : Thread). record y { pending = with_signal signal y.pending }) (taken u signal node) ])
+      go : (o : Option ℕ) → R node (elim o as (λ _. Node) [ None ↦ node | Some signal ↦ change_thread u (λ (y : Thread). record y { pending = with_signal signal y.pending }) (taken u signal node) ])
       go None = k.same node
       go (Some signal) = then (taken-closed node u signal) (k.quiet (taken u signal node) u (λ y. record y { pending = with_signal signal y.pending }) (record { process = λ x. refl; place = λ x. refl; does = λ x. refl }))
 
   pub raised-closed : (node : Node) (signal : ℕ) → R node (raised t signal node)
   raised-closed node signal = either (has signal (thread_of node t).mask || ignores (process_of node (thread_of node t).process) signal)
-    (then (does-closed node Ready refl) (dies-closed (set_does t Ready node) (thread_of node t).process (Killed signal)))
-    (k.moves node (λ y. record y { pending = with_signal signal y.pending; does = Ready }) (record { process = λ x. refl; place = λ x. refl; plain = λ x. refl }))
+      (then (does-closed node Ready refl) (dies-closed (set_does t Ready node) (thread_of node t).process (Killed signal)))
+      (k.moves node (λ y. record y { pending = with_signal signal y.pending; does = Ready }) (record { process = λ x. refl; place = λ x. refl; plain = λ x. refl }))
 
   pub past-closed : (node : Node) → R node (change_thread t (λ (x : Thread). record x { regs = set_pc (x.regs.pc + 4) x.regs }) node)
   past-closed node = k.quiet node t (λ x. record x { regs = set_pc (x.regs.pc + 4) x.regs }) (record { process = λ x. refl; place = λ x. refl; does = λ x. refl })
@@ -122,9 +122,9 @@ module _ (t : ℕ) (R Q : Node → Node → Type 0) (k : Closed t R Q) where
   pub returns-closed : (node : Node) (a : ℤ) → R node (returns t a node)
   unfolding returns
   returns-closed node a = either (is_living node (thread_of node t).process)
-    (either (is_error EINTR a) (k.moves node (λ x. record x { regs = set_pc (x.regs.pc + (2 ^ 64 - 4)) x.regs; back = true; does = Ready }) (record { process = λ x. refl; place = λ x. refl; plain = λ x. refl }))
-    (either (is_error EPIPE a) (then (answered-closed node a) (for_thread-closed (answered t a node) t 13)) (answered-closed node a)))
-    (k.gone node)
+      (either (is_error EINTR a) (k.moves node (λ x. record x { regs = set_pc (x.regs.pc + (2 ^ 64 - 4)) x.regs; back = true; does = Ready }) (record { process = λ x. refl; place = λ x. refl; plain = λ x. refl }))
+      (either (is_error EPIPE a) (then (answered-closed node a) (for_thread-closed (answered t a node) t 13)) (answered-closed node a)))
+      (k.gone node)
 
   pub finishes-closed : (node : Node) (a : ℤ) → R node (finishes t a node)
   unfolding finishes
@@ -137,8 +137,8 @@ module _ (t : ℕ) (R Q : Node → Node → Type 0) (k : Closed t R Q) where
       go : (o : Option ScriptLine) → R node (sent line node o)
       go None = k.same node
       go (Some l) =
-        let a : Node = record node { unsent = filter (λ x. not (line_is line x)) node.unsent } in
-        then (f node (filter (λ x. not (line_is line x)) node.unsent)) (for_process-closed a l.process l.signal)
+          let a : Node = record node { unsent = filter (λ x. not (line_is line x)) node.unsent } in
+          then (f node (filter (λ x. not (line_is line x)) node.unsent)) (for_process-closed a l.process l.signal)
 
   pub answers-closed : (a : ℤ) (v : View) → R v.node (answers t a v).node
   answers-closed a v = answered-closed (v.node) a
@@ -149,6 +149,7 @@ module _ (t : ℕ) (R Q : Node → Node → Type 0) (k : Closed t R Q) where
     where
       stored : View
       stored = store x.clear_address (little_endian 4 0) v
+
       go : (b d : Bool) → R v.node (cond b v (on_node (wake x.process x.clear_address 1) (cond d (store x.clear_address (little_endian 4 0) v) v))).node
       go true d = k.same v.node
       go false true = k.woken v.node x.process x.clear_address 1
@@ -162,17 +163,17 @@ module _ (t : ℕ) (R Q : Node → Node → Type 0) (k : Closed t R Q) where
 
   pub exits-closed : (code : ℕ) (v : View) → R v.node (exits t code v).node
   exits-closed code v =
-    let x = thread_of v.node t in
-    let a = (clear_word x v).node in
-    then (clear-closed x v) (then (note-closed a x code) (then (k.gone (note_first_code t x code a)) (dies_without-closed (without_thread t (note_first_code t x code a)) x.process)))
+      let x = thread_of v.node t in
+      let a = (clear_word x v).node in
+      then (clear-closed x v) (then (note-closed a x code) (then (k.gone (note_first_code t x code a)) (dies_without-closed (without_thread t (note_first_code t x code a)) x.process)))
 
   pub exits_group-closed : (code : ℕ) (v : View) → R v.node (exits_group t code v).node
   exits_group-closed code v = then (does-closed v.node Ready refl) (dies-closed (set_does t Ready v.node) (thread_of v.node t).process (Exit code))
 
   pub sets_clear_address-closed : (a : ℕ) (v : View) → R v.node (sets_clear_address t a v).node
   sets_clear_address-closed a v = then
-    (k.quiet v.node t (λ x. record x { clear_address = a }) (record { process = λ x. refl; place = λ x. refl; does = λ x. refl }))
-    (answered-closed ((change_thread t (λ (x : Thread). record x { clear_address = a }) v.node)) (pos t))
+      (k.quiet v.node t (λ x. record x { clear_address = a }) (record { process = λ x. refl; place = λ x. refl; does = λ x. refl }))
+      (answered-closed ((change_thread t (λ (x : Thread). record x { clear_address = a }) v.node)) (pos t))
 
   pub sets_robust_list-closed : (len : ℕ) (v : View) → R v.node (sets_robust_list t len v).node
   sets_robust_list-closed len v = either-view _ _ _ (answers-closed (pos 0) v) (answers-closed (refused EINVAL) v)
@@ -180,12 +181,12 @@ module _ (t : ℕ) (R Q : Node → Node → Type 0) (k : Closed t R Q) where
   -- ---- futex
   futex_wait-closed : (address val timeout : ℕ) (v : View) → Q v.node (futex_wait t address val timeout v).node
   futex_wait-closed address val timeout v = either-final _ _ _ (k.lift v.node (answered t (refused EINVAL) v.node) (answers-closed (refused EINVAL) v)) (either-final _ _ _ (k.lift v.node (answered t (refused ENOSYS) v.node) (answers-closed (refused ENOSYS) v))
-    (either-final _ _ _ (k.lift v.node (answered t (refused EFAULT) v.node) (answers-closed (refused EFAULT) v)) (either-final _ _ _ (k.lift v.node (answered t (refused EAGAIN) v.node) (answers-closed (refused EAGAIN) v)) (k.falls v.node address))))
+      (either-final _ _ _ (k.lift v.node (answered t (refused EFAULT) v.node) (answers-closed (refused EFAULT) v)) (either-final _ _ _ (k.lift v.node (answered t (refused EAGAIN) v.node) (answers-closed (refused EAGAIN) v)) (k.falls v.node address))))
 
   futex_wake-closed : (address : ℕ) (val : ℤ) (v : View) → R v.node (futex_wake t address val v).node
   futex_wake-closed address val v =
-    let q = (thread_of v.node t).process in
-    either-view _ _ _ (answers-closed (refused EINVAL) v)
+      let q = (thread_of v.node t).process in
+      either-view _ _ _ (answers-closed (refused EINVAL) v)
       (then (k.woken v.node q address (wake_count val)) (answered-closed (wake q address (wake_count val) v.node) (pos (min (wake_count val) (length (waiters v.node q address))))))
 
   pub futex-closed : (address op val timeout : ℕ) (v : View) → Q v.node (futex t address op val timeout v).node
@@ -197,24 +198,24 @@ module _ (t : ℕ) (R Q : Node → Node → Type 0) (k : Closed t R Q) where
 
   kills-closed : (q signal : ℕ) (v : View) → R v.node (kills t q signal v).node
   kills-closed q signal v = either-view _ _ _ (answers-closed (refused ESRCH) v)
-    (then (send-closed v.node signal (generate_for_process q) (λ s. for_process-closed v.node q s)) (answered-closed ((send signal (generate_for_process q) v.node)) (pos 0)))
+      (then (send-closed v.node signal (generate_for_process q) (λ s. for_process-closed v.node q s)) (answered-closed ((send signal (generate_for_process q) v.node)) (pos 0)))
 
   pub kill-closed : (pid signal : ℤ) (v : View) → R v.node (kill t pid signal v).node
   kill-closed pid signal v = first (positive pid) (checked_signal signal)
     where
-      first : (o s : Option ℕ) → R v.node (elim o as (λ _. View) [ | None ↦ refuses t EINVAL v | Some q ↦ elim s as (λ _. View) [ None ↦ refuses t EINVAL v | Some n ↦ kills t q n v ] ]).node
+      first : (o s : Option ℕ) → R v.node (elim o as (λ _. View) [ None ↦ refuses t EINVAL v | Some q ↦ elim s as (λ _. View) [ None ↦ refuses t EINVAL v | Some n ↦ kills t q n v ] ]).node
       first None s = answers-closed (refused EINVAL) v
       first (Some q) None = answers-closed (refused EINVAL) v
       first (Some q) (Some n) = kills-closed q n v
 
   kills_thread-closed : (q tid signal : ℕ) (v : View) → R v.node (kills_thread t q tid signal v).node
   kills_thread-closed q tid signal v = either-view _ _ _ (answers-closed (refused ESRCH) v)
-    (then (send-closed v.node signal (generate_for_thread tid) (λ s. for_thread-closed v.node tid s)) (answered-closed ((send signal (generate_for_thread tid) v.node)) (pos 0)))
+      (then (send-closed v.node signal (generate_for_thread tid) (λ s. for_thread-closed v.node tid s)) (answered-closed ((send signal (generate_for_thread tid) v.node)) (pos 0)))
 
   pub tgkill-closed : (pid tid signal : ℤ) (v : View) → R v.node (tgkill t pid tid signal v).node
   tgkill-closed pid tid signal v = first (positive pid) (positive tid) (checked_signal signal)
     where
-      first : (o d s : Option ℕ) → R v.node (elim o as (λ _. View) [ | None ↦ refuses t EINVAL v | Some q ↦ elim d as (λ _. View) [ | None ↦ refuses t EINVAL v | Some x ↦ elim s as (λ _. View) [ None ↦ refuses t EINVAL v | Some n ↦ kills_thread t q x n v ] ] ]).node
+      first : (o d s : Option ℕ) → R v.node (elim o as (λ _. View) [ None ↦ refuses t EINVAL v | Some q ↦ elim d as (λ _. View) [ None ↦ refuses t EINVAL v | Some x ↦ elim s as (λ _. View) [ None ↦ refuses t EINVAL v | Some n ↦ kills_thread t q x n v ] ] ]).node
       first None d s = answers-closed (refused EINVAL) v
       first (Some q) None s = answers-closed (refused EINVAL) v
       first (Some q) (Some x) None = answers-closed (refused EINVAL) v
@@ -225,12 +226,15 @@ module _ (t : ℕ) (R Q : Node → Node → Type 0) (k : Closed t R Q) where
     where
       q : ℕ
       q = (thread_of v.node t).process
+
       new : Action
       new = action_in (read_bytes v.memory act 24)
+
       changed : R v.node (answered t (pos 0) (drop_ignored q signal (with_action q signal new v.node)))
       changed = then (k.process v.node q (λ x. record x { actions = slice_set x.actions (signal - 1) new }) (record { heap = λ x. refl; limit = λ x. refl; instructions = λ x. refl; ended = λ x. refl })) (then (k.ignored (with_action q signal new v.node) q signal) (answered-closed ((drop_ignored q signal (with_action q signal new v.node))) (pos 0)))
+
       go : (b d : Bool) → R v.node (answers t (pos 0) (cond d (cond b v (store old (action_bytes (action_of (process_of v.node q) signal)) v))
-        (on_node (λ node. drop_ignored q signal (with_action q signal new node)) (cond b v (store old (action_bytes (action_of (process_of v.node q) signal)) v))))).node
+          (on_node (λ node. drop_ignored q signal (with_action q signal new node)) (cond b v (store old (action_bytes (action_of (process_of v.node q) signal)) v))))).node
       go true true = answered-closed (v.node) (pos 0)
       go false true = answered-closed (v.node) (pos 0)
       go true false = changed
@@ -244,8 +248,10 @@ module _ (t : ℕ) (R Q : Node → Node → Type 0) (k : Closed t R Q) where
     where
       masked : Thread → Thread
       masked y = record y { mask = new_mask how (number_of (read_bytes v.memory address 8)) y.mask }
+
       changed : R v.node (answered t (pos 0) (change_thread t masked v.node))
       changed = then (k.quiet v.node t masked (record { process = λ x. refl; place = λ x. refl; does = λ x. refl })) (answered-closed ((change_thread t masked v.node)) (pos 0))
+
       go : (b d : Bool) → R v.node (answers t (pos 0) (cond d (cond b v (store old (little_endian 8 (thread_of v.node t).mask) v)) (on_node (change_thread t masked) (cond b v (store old (little_endian 8 (thread_of v.node t).mask) v))))).node
       go true true = answered-closed (v.node) (pos 0)
       go false true = answered-closed (v.node) (pos 0)
@@ -260,8 +266,8 @@ module _ (t : ℕ) (R Q : Node → Node → Type 0) (k : Closed t R Q) where
 
   pub return-closed : (v : View) → R v.node (return_from_handler t v).node
   return-closed v =
-    let bytes = read_bytes v.memory (reg (thread_of v.node t).regs 2) frame_size in
-    either-view _ _ _ (k.moves v.node (λ y. record y { regs = restored bytes; mask = mask_in bytes; does = Ready }) (record { process = λ x. refl; place = λ x. refl; plain = λ x. refl }))
+      let bytes = read_bytes v.memory (reg (thread_of v.node t).regs 2) frame_size in
+      either-view _ _ _ (k.moves v.node (λ y. record y { regs = restored bytes; mask = mask_in bytes; does = Ready }) (record { process = λ x. refl; place = λ x. refl; plain = λ x. refl }))
       (raised-closed v.node 11)
 
   -- ---- wait4
@@ -273,8 +279,10 @@ module _ (t : ℕ) (R Q : Node → Node → Type 0) (k : Closed t R Q) where
     where
       told : View
       told = answers t (pos child) (noted_waited child v)
+
       done : R v.node told.node
       done = then (noted-closed child v) (answered-closed ((noted_waited child v).node) (pos child))
+
       go : (b d : Bool) → R v.node (cond b told (cond d (store status (little_endian 4 (status_of_life (process_of v.node child).life)) told) (refuses t EFAULT (noted_waited child v)))).node
       go true d = done
       go false true = done
@@ -289,7 +297,7 @@ module _ (t : ℕ) (R Q : Node → Node → Type 0) (k : Closed t R Q) where
 
   pub wait4-closed : (pid : ℤ) (status options rusage : ℕ) (v : View) → R v.node (wait4 t pid status options rusage v).node
   wait4-closed pid status options rusage v = either-view _ _ _ (answers-closed (refused EINVAL) v) (either-view _ _ _ (answers-closed (refused ENOSYS) v) (either-view _ _ _ (wait_over-closed pid status v)
-    (either-view _ _ _ (answers-closed (pos 0) v) (does-closed v.node (InWait pid status) refl))))
+      (either-view _ _ _ (answers-closed (pos 0) v) (does-closed v.node (InWait pid status) refl))))
 
   -- ---- all of them
   pub calls-closed : (number : ℕ) (a : ℕ → ℕ) (v : View) → Q v.node (one_of_calls t number a v).node
@@ -313,6 +321,7 @@ module _ (t : ℕ) (R Q : Node → Node → Type 0) (k : Closed t R Q) where
     where
       l : (b : Node) → R v.node b → Q v.node b
       l b f = k.lift v.node b f
+
       final : (b : Bool) (x y : View) → Q v.node x.node → Q v.node y.node → Q v.node (cond b x y).node
       final true x y f g = f
       final false x y f g = g
@@ -320,21 +329,26 @@ module _ (t : ℕ) (R Q : Node → Node → Type 0) (k : Closed t R Q) where
   -- ---- deliveries
   after_reset-closed : (node : Node) (q signal : ℕ) (a : Action) → R node (after_reset q signal a node)
   after_reset-closed node q signal a = either (SA_RESETHAND a)
-    (then (k.process node q (λ x. record x { actions = slice_set x.actions (signal - 1) (record a { handler = 0 }) }) (record { heap = λ x. refl; limit = λ x. refl; instructions = λ x. refl; ended = λ x. refl })) (k.ignored (with_action q signal (record a { handler = 0 }) node) q signal)) (k.same node)
+      (then (k.process node q (λ x. record x { actions = slice_set x.actions (signal - 1) (record a { handler = 0 }) }) (record { heap = λ x. refl; limit = λ x. refl; instructions = λ x. refl; ended = λ x. refl })) (k.ignored (with_action q signal (record a { handler = 0 }) node) q signal)) (k.same node)
 
   enter-closed : (signal : ℕ) (a : Action) (v : View) → R v.node (enter_handler t signal a v).node
   enter-closed signal a v = go (may_access v.memory Write sp frame_size)
     where
       x : Thread
       x = thread_of v.node t
+
       r : Regs
       r = interrupted_regs x.back a x.regs
+
       sp : ℕ
       sp = frame_address r
+
       entered : Thread → Thread
       entered y = record y { regs = handler_regs a signal sp r; mask = handler_mask a signal y.mask; back = false }
+
       stays : Thread → Thread
       stays y = record y { regs = r; back = false }
+
       go : (b : Bool) → R v.node (cond b (store sp (signal_frame r x.mask) (on_node (λ node. after_reset x.process signal a (change_thread t entered node)) v)) (on_node (λ node. change_process x.process (dies (Killed 11)) (change_thread t stays node)) v)).node
       go true = then (k.quiet v.node t entered (record { process = λ y. refl; place = λ y. refl; does = λ y. refl })) (after_reset-closed (change_thread t entered v.node) x.process signal a)
       go false = then (k.quiet v.node t stays (record { process = λ y. refl; place = λ y. refl; does = λ y. refl })) (dies-closed (change_thread t stays v.node) x.process (Killed 11))
@@ -344,10 +358,13 @@ module _ (t : ℕ) (R Q : Node → Node → Type 0) (k : Closed t R Q) where
     where
       q : ℕ
       q = (thread_of v.node t).process
+
       a : Action
       a = action_of (process_of v.node q) signal
+
       killed : Thread → Thread
       killed y = record y { regs = interrupted_regs y.back a y.regs; back = false }
+
       go : (b : Bool) → R v.node (cond b (on_node (λ node. change_process q (dies (Killed signal)) (change_thread t killed node)) v) (enter_handler t signal a v)).node
       go true = then (k.quiet v.node t killed (record { process = λ y. refl; place = λ y. refl; does = λ y. refl })) (dies-closed (change_thread t killed v.node) q (Killed signal))
       go false = enter-closed signal a v
@@ -355,6 +372,6 @@ module _ (t : ℕ) (R Q : Node → Node → Type 0) (k : Closed t R Q) where
   pub deliver-closed : (v : View) → R v.node (deliver t v).node
   deliver-closed v = go (next_signal v.node t)
     where
-      go : (o : Option ℕ) → R v.node (elim o as (λ _. View) [ | None ↦ v | Some signal ↦ deliver_signal t signal (on_node (taken t signal) v) ]).node
+      go : (o : Option ℕ) → R v.node (elim o as (λ _. View) [ None ↦ v | Some signal ↦ deliver_signal t signal (on_node (taken t signal) v) ]).node
       go None = k.same v.node
       go (Some signal) = then (taken-closed v.node t signal) (deliver_signal-closed signal (on_node (taken t signal) v))

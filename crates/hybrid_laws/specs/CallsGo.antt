@@ -159,7 +159,7 @@ module _ (p : ℕ) (h : Here) (worker_count : ℕ) (ring_of : ℕ → ℕ) (k : 
           let f = waiting-first (at h.side.book.rows) n ws (subst (λ (xs : List ℕ). (z : ℕ) → tally (if_same z) xs ≡ is_waiting (state_at (at h.side.book.rows) z)) e k.served.waits) in
           let is : at h.side.book.rows (first_number h.side.book.waiting) ≡ Some (Waiting, f.0) = ap (λ (xs : List ℕ). at h.side.book.rows (first_number xs)) e ∙ f.1 in
           restated h.side (first_number h.side.book.waiting) Waiting Held f.0 is (inl refl) (after_here (Events.Assign q w) p h).side refl refl refl (λ x. omega arith)
-              (service-put h.side.linux.services (first_number h.side.book.waiting) (record (service_of h.side.linux.services (first_number h.side.book.waiting)) { worker = w }) refl)
+          (service-put h.side.linux.services (first_number h.side.book.waiting) (record (service_of h.side.linux.services (first_number h.side.book.waiting)) { worker = w }) refl)
 
   -- a worker's request that is Held gets another state
   module _ (w : ℕ) (y : Serves h.side.linux h.side.book w Held) where

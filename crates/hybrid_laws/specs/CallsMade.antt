@@ -49,7 +49,7 @@ module _ (s : Side) (r t : ℕ) (progress : Progress) (given : (u : ℕ) (c : Ca
           let l = given u c g in
           let apart : (c.request == s.book.next) ≡ false = grind (arith, nat_tests, l) in
           told-by s z c.request (λ d. ap (λ o. is_ended_or_replied (state_in o)) (sym (begun-row c.request apart)) ∙ d)
-              (let a = sum-post (interrupts_of c.request) r (Request (call_made s.book.next t progress)) s.to_linux in omega (arith, a)) refl (h u c g m)
+          (let a = sum-post (interrupts_of c.request) r (Request (call_made s.book.next t progress)) s.to_linux in omega (arith, a)) refl (h u c g m)
 
   begun-gone : (x : ℕ) → gone z x ≡ gone s x + 0
   unfolding begin_call

@@ -50,7 +50,7 @@ module _ (p : ℕ) (h : Here) (worker_count : ℕ) (ring_number : ℕ → ℕ) (
   take-request c first =
       let is = first-of (RequestIs (at h.side.book.rows)) r (Request c) ms h.side.to_linux first k.asked in
       restated h.side c.q.0 Posted Waiting c is (inl refl) (with_taken (fetch_request c h.side.linux h.side.book h.side.round)) refl refl refl (no-interrupt (Request c) first (λ x. refl))
-          (service-put h.side.linux.services c.q.0 (new_service c) (unserved c.q.0 c is))
+      (service-put h.side.linux.services c.q.0 (new_service c) (unserved c.q.0 c is))
 
   take-clear : (range : PageRange) → ring r h.side.to_linux ≡ Clear range ∷ ms → CallsGo posts_none h.side (with_taken (fetch_clear range h.side.linux h.side.book h.side.round))
   unfolding fetch_clear

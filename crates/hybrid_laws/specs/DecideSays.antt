@@ -142,6 +142,7 @@ module _ (x : Process) (m : Memory) (free : ℕ) where
           second : (b c : Bool) → (b || nat_lt (x.heap_base + most_heap) a) ≡ false → a ≤ x.heap_base + most_heap
           second true c f = absurd (grind (arith, f))
           second false c f = not-below (x.heap_base + most_heap) a f
+
       down : a ≤ x.heap_base + most_heap → nat_lt a x.program_break ≡ true → Says (brk_down x m a)
       down most e =
           go (nat_lt 0 (count_present m (range (page_end a) (page_end x.program_break)))) refl

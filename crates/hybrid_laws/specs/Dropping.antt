@@ -27,6 +27,7 @@ drops_outside (suc n) low j sp o = drops_outside n (suc low) j (drop_page low sp
   where
     narrower : (n low j : ℕ) → in_range (range low (low + suc n)) j ≡ false → in_range (range (suc low) (suc low + n)) j ≡ false
     narrower n low j o = grind (arith, nat_tests, o)
+
     not_low : (n low j : ℕ) → in_range (range low (low + suc n)) j ≡ false → (j == low) ≡ false
     not_low n low j o = grind (arith, nat_tests, o)
 
@@ -57,6 +58,7 @@ rising-from b f (k ∷ free) l h n = go (nat_lt f k) refl (λ e. rising-from k f
   where
     apart : nat_lt f k ≡ false → k < f
     apart e = grind (arith, nat_tests, n, e)
+
     go : (x : Bool) → nat_lt f k ≡ x → (k < f → Rising (k ∷ insert_frame f free)) → Rising (b ∷ (if x then f ∷ k ∷ free else k ∷ insert_frame f free))
     go true e i = (l, ((let g : f < k = grind (arith, nat_tests, e) in g), h.1))
     go false e i = (h.0, i (apart e))

@@ -36,6 +36,7 @@ module _ (r : PageRange) where
       step : (b : Bool) (k : ℕ) (ks : List ℕ) (n : ℕ) → length ks ≡ n → ◌≡◌ {A = ℕ} (length (cond b (k ∷ ks) ks)) ((if b then 1 else 0) + n)
       step true k ks n e = omega (arith, e)
       step false k ks n e = omega (arith, e)
+
       go : (es : List (ℕ × Page)) → length (filter (in_range r) (map (λ (e : ℕ × Page). e.0) es)) ≡ sum_of inside es
       go [] = refl
       go (e ∷ es) = step (in_range r e.0) e.0 (filter (in_range r) (map (λ (x : ℕ × Page). x.0) es)) (sum_of inside es) (go es) ∙ sym (sum_by-cons inside e es)
@@ -79,6 +80,7 @@ module _ (r : PageRange) where
       zero-at : (e : ℕ × Page) → at m e.0 ≡ Some e.1 → (b : Bool) → in_range r e.0 ≡ b → ◌≡◌ {A = ℕ} (if b then 1 else 0) 0
       zero-at e k false f = refl
       zero-at e k true f = absurd (let n = sym (h e.0 f) ∙ k in grind (arith, n))
+
       go : (es : List (ℕ × Page)) → Each (λ (e : ℕ × Page). at m e.0 ≡ Some e.1) es → sum_of inside es ≡ 0
       go [] k = refl
       go (e ∷ es) k = let a = sum_by-cons inside e es in let b = go es k.1 in let c = zero-at e k.0 (in_range r e.0) refl in omega (arith, a, b, c)
@@ -89,27 +91,30 @@ module _ (r : PageRange) where
     where
       after : OneSpace
       after = each_in one.drop_page r sp
+
       none-in : r.lo ≤ r.hi → (j : ℕ) → in_range r j ≡ true → at (each_in one.drop_page r sp).memory j ≡ None
       none-in l j e = drops-none (r.hi - r.lo) r.lo j sp (grind (arith, nat_tests, e)) (above r.lo r.hi l j e)
         where
           above : (lo hi : ℕ) → lo ≤ hi → (j : ℕ) → in_range (range lo hi) j ≡ true → j < lo + (hi - lo)
           above lo hi l j e = grind (arith, nat_tests, l, e)
+
       empty : (lo hi : ℕ) → hi < lo → (j : ℕ) → in_range (range lo hi) j ≡ false
       empty lo hi l j = grind (arith, nat_tests, l)
+
       go : (b : Bool) → nat_le r.lo r.hi ≡ b → (each_in one.drop_page r sp).free ≡ sp.free + count_present sp.memory r
       go true e =
-        let l : r.lo ≤ r.hi = grind (arith, nat_tests, e) in
-        let t = drops-total (r.hi - r.lo) r.lo sp (omega arith) (omega (arith, l)) in
-        let z = inside-none (each_in one.drop_page r sp).memory (none-in l) in
-        let c = count-inside sp.memory in
-        omega (arith, t, z, c)
+          let l : r.lo ≤ r.hi = grind (arith, nat_tests, e) in
+          let t = drops-total (r.hi - r.lo) r.lo sp (omega arith) (omega (arith, l)) in
+          let z = inside-none (each_in one.drop_page r sp).memory (none-in l) in
+          let c = count-inside sp.memory in
+          omega (arith, t, z, c)
       go false e =
-        let l : r.hi < r.lo = grind (arith, nat_tests, e) in
-        let n : r.hi - r.lo ≡ 0 = omega (arith, l) in
-        let z = inside-none-by sp.memory (empty r.lo r.hi l) in
-        let c = count-inside sp.memory in
-        let f = ap (λ (k : ℕ). (each_page one.drop_page k r.lo sp).free) n in
-        omega (arith, z, c, f)
+          let l : r.hi < r.lo = grind (arith, nat_tests, e) in
+          let n : r.hi - r.lo ≡ 0 = omega (arith, l) in
+          let z = inside-none-by sp.memory (empty r.lo r.hi l) in
+          let c = count-inside sp.memory in
+          let f = ap (λ (k : ℕ). (each_page one.drop_page k r.lo sp).free) n in
+          omega (arith, z, c, f)
         where
           inside-none-by : (m : Memory) → ((j : ℕ) → in_range r j ≡ false) → sum_of inside (entries m) ≡ 0
           inside-none-by m h = inside-none m (λ j e. absurd (let k = sym e ∙ h j in grind (arith, k)))
@@ -140,8 +145,8 @@ module _ (tables : ℕ → Reads Row) (p : ℕ) where
   pub shown_adds : (rights : Rights) (n low : ℕ) (sp : Space) → n ≤ length sp.free → FramesOf sp → each_page (one.add_page rights) n low (shown_space sp) ≡ shown_space (each_page (add_page rights) n low sp)
   shown_adds rights zero low sp l c = refl
   shown_adds rights (suc n) low sp l c =
-    ap (each_page (one.add_page rights) n (suc low)) (shown_add rights low sp (omega (arith, l)) (own-not-free sp c))
-    ∙ shown_adds rights n (suc low) (add_page rights low sp) (length-add rights low sp n l) (frames_add tables p low rights sp (omega (arith, l)) c)
+      ap (each_page (one.add_page rights) n (suc low)) (shown_add rights low sp (omega (arith, l)) (own-not-free sp c))
+      ∙ shown_adds rights n (suc low) (add_page rights low sp) (length-add rights low sp n l) (frames_add tables p low rights sp (omega (arith, l)) c)
 
   pub frames_protects : (rights : Rights) (n low : ℕ) (sp : Space) → FramesOf sp → FramesOf (each_page (protect_page rights) n low sp)
   frames_protects rights zero low sp c = c
@@ -153,16 +158,16 @@ module _ (tables : ℕ → Reads Row) (p : ℕ) where
 
   pub frames_effect : (e : Effect) (sp : Space) → Fits e sp → FramesOf sp → FramesOf (after_effect e sp)
   frames_effect e sp l c =
-    let a = frames_drops tables p (pages_count e.dropped) e.dropped.lo sp c in
-    let b = frames_adds e.rights (pages_count e.added) e.added.lo (each_in drop_page e.dropped sp) l a in
-    frames_protects e.rights (pages_count e.protected) e.protected.lo (each_in (add_page e.rights) e.added (each_in drop_page e.dropped sp)) b
+      let a = frames_drops tables p (pages_count e.dropped) e.dropped.lo sp c in
+      let b = frames_adds e.rights (pages_count e.added) e.added.lo (each_in drop_page e.dropped sp) l a in
+      frames_protects e.rights (pages_count e.protected) e.protected.lo (each_in (add_page e.rights) e.added (each_in drop_page e.dropped sp)) b
 
   pub shown_effect : (e : Effect) (sp : Space) → Fits e sp → FramesOf sp → one.after_effect e (shown_space sp) ≡ shown_space (after_effect e sp)
   shown_effect e sp l c =
-    let d = frames_drops tables p (pages_count e.dropped) e.dropped.lo sp c in
-    ap (λ s. each_in (one.protect_page e.rights) e.protected (each_in (one.add_page e.rights) e.added s)) (shown_drops (pages_count e.dropped) e.dropped.lo sp)
-    ∙ ap (each_in (one.protect_page e.rights) e.protected) (shown_adds e.rights (pages_count e.added) e.added.lo (each_in drop_page e.dropped sp) l d)
-    ∙ shown_protects e.rights (pages_count e.protected) e.protected.lo (each_in (add_page e.rights) e.added (each_in drop_page e.dropped sp))
+      let d = frames_drops tables p (pages_count e.dropped) e.dropped.lo sp c in
+      ap (λ s. each_in (one.protect_page e.rights) e.protected (each_in (one.add_page e.rights) e.added s)) (shown_drops (pages_count e.dropped) e.dropped.lo sp)
+      ∙ ap (each_in (one.protect_page e.rights) e.protected) (shown_adds e.rights (pages_count e.added) e.added.lo (each_in drop_page e.dropped sp) l d)
+      ∙ shown_protects e.rights (pages_count e.protected) e.protected.lo (each_in (add_page e.rights) e.added (each_in drop_page e.dropped sp))
     where
       shown_protects : (rights : Rights) (n low : ℕ) (sp : Space) → each_page (one.protect_page rights) n low (shown_space sp) ≡ shown_space (each_page (protect_page rights) n low sp)
       shown_protects rights zero low sp = refl
@@ -171,9 +176,9 @@ module _ (tables : ℕ → Reads Row) (p : ℕ) where
 -- rows outside the three ranges stay
 pub outside_effect : (e : Effect) (j : ℕ) (sp : Space) → in_range e.dropped j ≡ false → in_range e.added j ≡ false → in_range e.protected j ≡ false → at (after_effect e sp).table j ≡ at sp.table j
 outside_effect e j sp a b c =
-  outside_range (protect_page e.rights) (protect_other e.rights) e.protected j (each_in (add_page e.rights) e.added (each_in drop_page e.dropped sp)) c
-  ∙ outside_range (add_page e.rights) (add_other e.rights) e.added j (each_in drop_page e.dropped sp) b
-  ∙ outside_range drop_page drop_other e.dropped j sp a
+    outside_range (protect_page e.rights) (protect_other e.rights) e.protected j (each_in (add_page e.rights) e.added (each_in drop_page e.dropped sp)) c
+    ∙ outside_range (add_page e.rights) (add_other e.rights) e.added j (each_in drop_page e.dropped sp) b
+    ∙ outside_range drop_page drop_other e.dropped j sp a
 
 -- how many frames are free once the pages of the range are gone
 pub length-dropped : (r : PageRange) (sp : Space) → length (each_in drop_page r sp).free ≡ length sp.free + count_present (shown_memory sp.table sp.frames) r

@@ -19,6 +19,7 @@ use Rattle.mck_word.specs.Maps.{and_then, at, collect, total}
 use Rattle.std.proofs.Common.{ap, arith, refl, sym, ◌∙◌}
 use Rattle.std.proofs.lemmas.Bool.Decides.{nat_tests}
 use Rattle.std.specs.Prelude.{Bool, None, Option, Some, cond, false, filter, is_some, not, option_map, true, unwrap_or, ℕ, ◌%◌, ◌&&◌, ◌==◌, ◌≡◌, ◌≤◌}
+
 module _ (node : Node) (p : ℕ) (s : Sound node) where
   abbrev keeps-row : ℕ → Thread → Option Thread
   keeps-row t x = cond (x.process == p) None (Some x)
@@ -39,6 +40,7 @@ module _ (node : Node) (p : ℕ) (s : Sound node) where
       by : (x : Thread) → at node.threads u ≡ Some x → (b : Bool) → (x.process == p) ≡ b → cond b None (Some x) ≡ Some y → (at node.threads u ≡ Some y) × ((y.process == p) ≡ false)
       by x f true n k = absurd (grind (arith, k))
       by x f false n k = let g : x ≡ y = cc in (f ∙ ap Some g, ap (λ (z : Thread). z.process == p) (sym g) ∙ n)
+
       go : (o : Option Thread) → at node.threads u ≡ o → and_then o (keeps-row u) ≡ Some y → (at node.threads u ≡ Some y) × ((y.process == p) ≡ false)
       go None f k = absurd (grind (arith, k))
       go (Some x) f k = by x f (x.process == p) refl k
@@ -55,6 +57,7 @@ module _ (node : Node) (p : ℕ) (s : Sound node) where
       mapped : (o : Option Process) → is_some (option_map ends o) ≡ is_some o
       mapped None = refl
       mapped (Some z) = refl
+
       go : (y : Bool) → (x == p) ≡ y → is_some (cond y (option_map ends (at node.processes p)) (at node.processes x)) ≡ has_process node x
       go true f = let g : x ≡ p = grind (arith, nat_tests, f) in mapped (at node.processes p) ∙ ap (has_process node) (sym g)
       go false f = refl
@@ -71,6 +74,7 @@ module _ (node : Node) (p : ℕ) (s : Sound node) where
       mapped : (o : Option Process) → counted_in (λ (z : Process). z.instructions) (option_map ends o) ≡ counted_in (λ (z : Process). z.instructions) o
       mapped None = refl
       mapped (Some z) = refl
+
       go : (x : ℕ) (y : Bool) → (x == p) ≡ y → counted_in (λ (z : Process). z.instructions) (cond y (option_map ends (at node.processes p)) (at node.processes x)) ≡ counted_in (λ (z : Process). z.instructions) (at node.processes x)
       go x true f = let g : x ≡ p = grind (arith, nat_tests, f) in mapped (at node.processes p) ∙ ap (λ (j : ℕ). counted_in (λ (z : Process). z.instructions) (at node.processes j)) (sym g)
       go x false f = refl
@@ -92,6 +96,7 @@ module _ (node : Node) (p : ℕ) (s : Sound node) where
       own : (q ≡ p) → (o : Option Process) → at node.processes p ≡ o → option_map ends o ≡ Some y → WasMade q y
       own g None f k = absurd (grind (arith, k))
       own g (Some x) f k = let z : ends x ≡ y = cc in (x, ap (at node.processes) g ∙ f, ap (λ (v : Process). v.heap_base) z, ap (λ (v : Process). v.program_break) z)
+
       go : (b : Bool) → (q == p) ≡ b → cond b (option_map ends (at node.processes p)) (at node.processes q) ≡ Some y → WasMade q y
       go true n k = own (grind (arith, nat_tests, n)) (at node.processes p) refl k
       go false n k = (y, k, refl, refl)
@@ -113,9 +118,11 @@ module _ (node : Node) (p : ℕ) (s : Sound node) where
     sleeping = sleeping-of node-closed sleepers once;
     places = record {
       below = λ u y e. s.places.below u y (row-left u y e).0;
-      apart = λ t u x y e f a b. s.places.apart t u x y (row-left t x e).0 (row-left u y f).0 a b };
+      apart = λ t u x y e f a b. s.places.apart t u x y (row-left t x e).0 (row-left u y f).0 a b;
+    };
     heaps = λ q y e. (let w = was-made q y e in let h = s.heaps q w.0 w.1 in
-      record { aligned = ap (λ (n : ℕ). n % page_size) (sym w.2) ∙ h.aligned; below = (let l = h.below in let a = w.2 in let b = w.3 in omega (arith, l, a, b)) }) }
+        record { aligned = ap (λ (n : ℕ). n % page_size) (sym w.2) ∙ h.aligned; below = (let l = h.below in let a = w.2 in let b = w.3 in omega (arith, l, a, b)) });
+  }
 
   -- telling the parent
   pub told : NodeSteps node-closed (process_ended p node)
@@ -124,9 +131,10 @@ module _ (node : Node) (p : ℕ) (s : Sound node) where
     where
       same : NodeSteps node-closed node-closed
       same = steps-of node-closed node-closed closed-sound (goes-same node-closed) closed-sound.sleeping
+
       by : (b c : Bool) → NodeSteps node-closed (cond b (cond c node-closed (change_process (process_of node p).parent (λ (x : Process). record x { pending = with_signal 17 x.pending }) node-closed)) node-closed)
       by false c = same
       by true true = same
       by true false = steps-of node-closed (change_process (process_of node p).parent (λ (x : Process). record x { pending = with_signal 17 x.pending }) node-closed) closed-sound
-        (goes-process node-closed (process_of node p).parent (λ (x : Process). record x { pending = with_signal 17 x.pending }) (record { heap = λ x. refl; limit = λ x. refl; instructions = λ x. refl; ended = λ x. refl }))
-        (record { asleep = closed-sound.sleeping.asleep; once = closed-sound.sleeping.once })
+          (goes-process node-closed (process_of node p).parent (λ (x : Process). record x { pending = with_signal 17 x.pending }) (record { heap = λ x. refl; limit = λ x. refl; instructions = λ x. refl; ended = λ x. refl }))
+          (record { asleep = closed-sound.sleeping.asleep; once = closed-sound.sleeping.once })

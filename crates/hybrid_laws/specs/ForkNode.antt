@@ -17,6 +17,7 @@ use Rattle.mck_word.specs.Words.{word_of}
 use Rattle.std.proofs.Common.{ap, arith, inl, inr, refl, subst, sym, ◌∙◌}
 use Rattle.std.proofs.lemmas.Bool.Decides.{nat_tests}
 use Rattle.std.specs.Prelude.{Bool, None, Option, Some, cond, false, is_some, not, pos, true, unwrap_or, ℕ, ◌&&◌, ◌+◌, ◌==◌, ◌≡◌, ◌⊎◌}
+
 module _ (a : Node) (s : Sound a) (t : ℕ) (x : Thread) (there : at a.threads t ≡ Some x) (flags stack tls child_tid : ℕ) where
   abbrev n : ℕ
   n = a.next_number
@@ -109,10 +110,10 @@ module _ (a : Node) (s : Sound a) (t : ℕ) (x : Thread) (there : at a.threads t
     where
       go : (o : Option Process) → at a.processes parent ≡ o → HeapHolds new
       go (Some w) e =
-        let h = s.heaps parent w e in
-        let same : process_of a parent ≡ w = ap (λ (o : Option Process). unwrap_or o no_process) e in
-        let v = subst HeapHolds (sym same) h in
-        record { aligned = v.aligned; below = v.below }
+          let h = s.heaps parent w e in
+          let same : process_of a parent ≡ w = ap (λ (o : Option Process). unwrap_or o no_process) e in
+          let v = subst HeapHolds (sym same) h in
+          record { aligned = v.aligned; below = v.below }
       go None e = absurd (let l = there-has a x.process (s.threads_there t x there) in let k = ap (has_process a) in-parent in let g = ap is_some e in grind (arith, l, k, g))
 
   sound : Sound forked
@@ -126,11 +127,16 @@ module _ (a : Node) (s : Sound a) (t : ℕ) (x : Thread) (there : at a.threads t
       apart = λ u v z w e f p q. elim (new-or-old u z e) [
         | inl i ↦ elim (new-or-old v w f) [
           | inl j ↦ i.0 ∙ sym j.0
-          | inr j ↦ absurd (let d = not-new v w j in let g : w.process ≡ n = sym p ∙ ap (λ (m : Thread). m.process) i.1 in grind (arith, nat_tests, d, g)) ]
+          | inr j ↦ absurd (let d = not-new v w j in let g : w.process ≡ n = sym p ∙ ap (λ (m : Thread). m.process) i.1 in grind (arith, nat_tests, d, g))
+        ]
         | inr i ↦ elim (new-or-old v w f) [
           | inl j ↦ absurd (let d = not-new u z i in let g : z.process ≡ n = p ∙ ap (λ (m : Thread). m.process) j.1 in grind (arith, nat_tests, d, g))
-          | inr j ↦ s.places.apart u v z w i j p q ] ] };
-    heaps = λ q z e. elim (made-or-old q z e) [ inl w ↦ subst HeapHolds (sym w.1) heap | inr w ↦ s.heaps q z w ] }
+          | inr j ↦ s.places.apart u v z w i j p q
+        ]
+      ];
+    };
+    heaps = λ q z e. elim (made-or-old q z e) [ inl w ↦ subst HeapHolds (sym w.1) heap | inr w ↦ s.heaps q z w ];
+  }
 
   module _ (awake : IsAwake t a) (stopped : is_stopped x.does ≡ true) where
     pub fork-answers : NodeSteps forked left_by_fork
@@ -138,13 +144,13 @@ module _ (a : Node) (s : Sound a) (t : ℕ) (x : Thread) (there : at a.threads t
 
     pub fork-paid : total stops left_by_fork.threads + 1 ≡ total stops a.threads
     fork-paid =
-      let l = stops-fewer forked t x (λ z. record z { regs = set_a0 (word_of (pos n)) z.regs; does = Ready }) (old-same t x there) stopped refl in
-      let p = total-put stops a.threads n y in
-      let f = ap (counted_in stops) fresh in
-      omega (arith, l, p, f)
+        let l = stops-fewer forked t x (λ z. record z { regs = set_a0 (word_of (pos n)) z.regs; does = Ready }) (old-same t x there) stopped refl in
+        let p = total-put stops a.threads n y in
+        let f = ap (counted_in stops) fresh in
+        omega (arith, l, p, f)
 
     pub fork-instructions : instructions_in_all left_by_fork ≡ instructions_in_all a
     fork-instructions =
-      let p = total-put (λ (z : Process). z.instructions) a.processes n new in
-      let f = ap (counted_in (λ (z : Process). z.instructions)) none-made in
-      omega (arith, p, f)
+        let p = total-put (λ (z : Process). z.instructions) a.processes n new in
+        let f = ap (counted_in (λ (z : Process). z.instructions)) none-made in
+        omega (arith, p, f)

@@ -101,10 +101,10 @@ module _ (pair : Pair) (c : Coherent pair) where
 
     from-row : (i : ℕ) (row : Row) → table_of (after pair ev) p i ≡ Some row → ((r : Row) → table_of pair p i ≡ Some r → r.0.0 ≢ row.0.0) → WasIn eff.dropped.lo (eff.dropped.lo + pages_count eff.dropped) sp row.0.0 → frame_bytes (after pair ev).frames row.0.0 ≡ zero_page → IsFresh pair ev p i row.0.0
     from-row i row there new w z = record {
-        was_free = inr (record { process = p; page = w.0; row = w.1; there = w.2; frame = w.3; gone = gone });
-        unreferenced = unreferenced row.0.0 only;
-        bytes = inl z;
-      }
+      was_free = inr (record { process = p; page = w.0; row = w.1; there = w.2; frame = w.3; gone = gone });
+      unreferenced = unreferenced row.0.0 only;
+      bytes = inl z;
+    }
       where
         gone : (r : Row) → table_of (after pair ev) p w.0 ≡ Some r → r.0.0 ≢ row.0.0
         gone r e g =
@@ -138,4 +138,4 @@ module _ (pair : Pair) (c : Coherent pair) where
             let there : table_of (after pair ev) p i ≡ Some h.row = ap (λ (z : ℕ). table_of (after pair ev) z i) (sym y) ∙ h.there in
             let own : at (after_effect eff sp).table i ≡ Some h.row = sym (ap (λ (z : Bool). (if z then at (after_effect eff sp).table else table_of pair x) i) d) ∙ sym (tables x i) ∙ h.there in
             subst (λ (z : ℕ). IsFresh pair ev z i h.row.0.0) (sym y)
-                (came i h.row there (λ r e. new r (ap (λ (z : ℕ). table_of pair z i) y ∙ e)) (came-effect eff sp l i h.row own))
+            (came i h.row there (λ r e. new r (ap (λ (z : ℕ). table_of pair z i) y ∙ e)) (came-effect eff sp l i h.row own))

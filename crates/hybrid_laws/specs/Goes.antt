@@ -64,7 +64,11 @@ pub goes-then : (a b c : Node) → Goes a b → Goes b c → Goes a c
 goes-then a b c f g = record {
   rows = λ u z e. (let y = g.rows u z e in let x = f.rows u y.0 y.1 in (x.0, x.1, y.2 ∙ x.2, y.3 ∙ x.3, λ s. x.4 (y.4 s)));
   processes = λ q. g.processes q ∙ f.processes q;
-  next = g.next ∙ f.next; frames = g.frames ∙ f.frames; limit = g.limit ∙ f.limit; files = g.files ∙ f.files }
+  next = g.next ∙ f.next;
+  frames = g.frames ∙ f.frames;
+  limit = g.limit ∙ f.limit;
+  files = g.files ∙ f.files;
+}
 
 -- ---- a row of threads changed
 changed-was : (m : Map Thread) (u : ℕ) (f : Thread → Thread) → ((x : Thread) → ((f x).process ≡ x.process) × ((f x).place ≡ x.place) × (is_stopped (f x).does ≡ true → is_stopped x.does ≡ true)) → (v : ℕ) (y : Thread) → at (change m u f) v ≡ Some y → WasThere (at m v) y
@@ -73,9 +77,10 @@ changed-was m u f h v y e = go (v == u) refl (sym (at-change m u f v) ∙ e)
     row : (o : Option Thread) → option_map f o ≡ Some y → WasThere o y
     row None k = absurd (grind (arith, k))
     row (Some x) k =
-      let g : f x ≡ y = cc in
-      let a = h x in
-      (x, refl, ap (λ (z : Thread). z.process) (sym g) ∙ a.0, ap (λ (z : Thread). z.place) (sym g) ∙ a.1, λ s. a.2 (ap (λ (z : Thread). is_stopped z.does) g ∙ s))
+        let g : f x ≡ y = cc in
+        let a = h x in
+        (x, refl, ap (λ (z : Thread). z.process) (sym g) ∙ a.0, ap (λ (z : Thread). z.place) (sym g) ∙ a.1, λ s. a.2 (ap (λ (z : Thread). is_stopped z.does) g ∙ s))
+
     go : (b : Bool) → (v == u) ≡ b → cond b (option_map f (at m u)) (at m v) ≡ Some y → WasThere (at m v) y
     go true g k = let w : v ≡ u = grind (arith, nat_tests, g) in subst (λ (j : ℕ). WasThere (at m j) y) (sym w) (row (at m u) k)
     go false g k = (y, k, refl, refl, λ s. s)
@@ -99,13 +104,18 @@ goes-moves a u f h = goes-threads a (change a.threads u f) (changed-was a.thread
 
 pub goes-process : (a : Node) (q : ℕ) (f : Process → Process) → Calm f → Goes a (change_process q f a)
 goes-process a q f h = record {
-    rows = λ u y e. (y, e, refl, refl, λ s. s);
-    processes = λ r. ap lasting (at-change a.processes q f r) ∙ go r (r == q) refl;
-    next = refl; frames = refl; limit = refl; files = refl }
+  rows = λ u y e. (y, e, refl, refl, λ s. s);
+  processes = λ r. ap lasting (at-change a.processes q f r) ∙ go r (r == q) refl;
+  next = refl;
+  frames = refl;
+  limit = refl;
+  files = refl;
+}
   where
     row : (o : Option Process) → lasting (option_map f o) ≡ lasting o
     row None = refl
     row (Some x) = let b = h.heap x in let c = h.limit x in let d = h.instructions x in let e = h.ended x in λ i. Some (b i, c i, d i, e i)
+
     go : (r : ℕ) (b : Bool) → (r == q) ≡ b → lasting (cond b (option_map f (at a.processes q)) (at a.processes r)) ≡ lasting (at a.processes r)
     go r true e = let g : r ≡ q = grind (arith, nat_tests, e) in rw g (row (at a.processes q))
     go r false e = refl
@@ -148,7 +158,7 @@ woken-other (s ∷ ss) a u h = woken-other ss (answered s.thread (pos 0) a) u h.
 woken-goes : (ss : List Sleeper) (a : Node) → Goes a (wake_threads ss a)
 woken-goes [] a = goes-same a
 woken-goes (s ∷ ss) a = goes-then a (answered s.thread (pos 0) a) (wake_threads ss (answered s.thread (pos 0) a))
-  (goes-moves a s.thread (λ x. record x { regs = set_a0 (word_of (pos 0)) x.regs; does = Ready }) (record { process = λ x. refl; place = λ x. refl; plain = λ x. refl })) (woken-goes ss (answered s.thread (pos 0) a))
+    (goes-moves a s.thread (λ x. record x { regs = set_a0 (word_of (pos 0)) x.regs; does = Ready }) (record { process = λ x. refl; place = λ x. refl; plain = λ x. refl })) (woken-goes ss (answered s.thread (pos 0) a))
 
 woken-sleepers : (ss : List Sleeper) (a : Node) → (wake_threads ss a).sleepers ≡ a.sleepers
 woken-sleepers [] a = refl
@@ -195,13 +205,14 @@ module _ (a : Node) (process address n : ℕ) where
   wake-left = woken-sleepers woken begun
 
   pub wake-sleep : (t : ℕ) → IsAwake t a → SleepersAre a → SleepOnce a → IsAwake t (wake process address n a) × SleepersAre (wake process address n a) × SleepOnce (wake process address n a)
-  wake-sleep t awake are once =
-    (subst (Each (λ (s : Sleeper). (s.thread == t) ≡ false)) (sym wake-left) (Each-filter (λ (s : Sleeper). (s.thread == t) ≡ false) (λ s. not (is_waiter woken s)) a.sleepers awake),
-     subst (Each (SleeperIs (wake process address n a))) (sym wake-left)
-      (Each-map (λ (s : Sleeper). SleeperIs a s × (not (is_waiter woken s) ≡ true)) (SleeperIs (wake process address n a)) left
+  wake-sleep t awake are once = (
+    subst (Each (λ (s : Sleeper). (s.thread == t) ≡ false)) (sym wake-left) (Each-filter (λ (s : Sleeper). (s.thread == t) ≡ false) (λ s. not (is_waiter woken s)) a.sleepers awake),
+    subst (Each (SleeperIs (wake process address n a))) (sym wake-left)
+        (Each-map (λ (s : Sleeper). SleeperIs a s × (not (is_waiter woken s) ≡ true)) (SleeperIs (wake process address n a)) left
         (λ s k. sleeper-stays a (wake process address n a) s (λ x e. (x, woken-other woken begun s.thread (not-waiter woken s k.1) ∙ e, refl, refl)) k.0)
         (Each-both (SleeperIs a) (λ s. not (is_waiter woken s) ≡ true) left (Each-filter (SleeperIs a) (λ s. not (is_waiter woken s)) a.sleepers are) (each-passes (λ s. not (is_waiter woken s)) a.sleepers))),
-     λ u. subst (λ ss. tally (λ (s : Sleeper). if_same s.thread u) ss ≤ 1) (sym wake-left) (le-trans (tally-filter (λ (s : Sleeper). if_same s.thread u) (λ s. not (is_waiter woken s)) a.sleepers) (once u)))
+    λ u. subst (λ ss. tally (λ (s : Sleeper). if_same s.thread u) ss ≤ 1) (sym wake-left) (le-trans (tally-filter (λ (s : Sleeper). if_same s.thread u) (λ s. not (is_waiter woken s)) a.sleepers) (once u)),
+  )
     where
       le-trans : {x y z : ℕ} → x ≤ y → y ≤ z → x ≤ z
       le-trans f g = omega (arith, f, g)
@@ -238,8 +249,8 @@ module _ (a : Node) (q signal : ℕ) where
       row : (o : Option Thread) (y : Thread) → option_map less o ≡ Some y → WasThere o y
       row None y k = absurd (grind (arith, k))
       row (Some x) y k =
-        let g : less x ≡ y = cc in
-        (x, refl, ap (λ (z : Thread). z.process) (sym g) ∙ less-quiet.process x, ap (λ (z : Thread). z.place) (sym g) ∙ less-quiet.place x, λ s. ap is_stopped (sym (less-quiet.does x)) ∙ ap (λ (z : Thread). is_stopped z.does) g ∙ s)
+          let g : less x ≡ y = cc in
+          (x, refl, ap (λ (z : Thread). z.process) (sym g) ∙ less-quiet.process x, ap (λ (z : Thread). z.place) (sym g) ∙ less-quiet.place x, λ s. ap is_stopped (sym (less-quiet.does x)) ∙ ap (λ (z : Thread). is_stopped z.does) g ∙ s)
 
   drop-same : (u : ℕ) → SameSleep a dropped u
   drop-same u x e = (less x, less-at u ∙ ap (option_map less) e, less-quiet.does x, less-quiet.process x)
@@ -277,23 +288,24 @@ module _ (t : ℕ) (a : Node) (address : ℕ) where
       goes-threads' f = record { rows = f; processes = λ q. refl; next = refl; frames = refl; limit = refl; files = refl }
 
   pub falls-sleep : (x : Thread) → at a.threads t ≡ Some x → IsAwake t a → SleepersAre a → SleepOnce a → SleepersAre (falls_asleep t address a) × SleepOnce (falls_asleep t address a)
-  falls-sleep x there awake are once =
-    (Each-push (SleeperIs (falls_asleep t address a)) a.sleepers sleeper (awake-stay t a (falls_asleep t address a) a.sleepers (λ u n. same-other a t u (λ y. record y { does = Asleep address }) n) awake are)
-      (record x { does = Asleep address }, thread-changed lies t (λ y. record y { does = Asleep address }) x there, refl, sym (ap (λ (z : Thread). z.process) (thread-is a t x there))),
-     λ u. counts u (t == u) refl)
+  falls-sleep x there awake are once = (
+    Each-push (SleeperIs (falls_asleep t address a)) a.sleepers sleeper (awake-stay t a (falls_asleep t address a) a.sleepers (λ u n. same-other a t u (λ y. record y { does = Asleep address }) n) awake are)
+        (record x { does = Asleep address }, thread-changed lies t (λ y. record y { does = Asleep address }) x there, refl, sym (ap (λ (z : Thread). z.process) (thread-is a t x there))),
+    λ u. counts u (t == u) refl,
+  )
     where
       counts : (u : ℕ) (b : Bool) → (t == u) ≡ b → tally (λ (s : Sleeper). if_same s.thread u) (a.sleepers ++ sleeper ∷ []) ≤ 1
       counts u true e =
-        let g : t ≡ u = grind (arith, nat_tests, e) in
-        let z = subst (λ (j : ℕ). tally (λ (s : Sleeper). if_same s.thread j) a.sleepers ≡ 0) g (tally-awake t a.sleepers awake) in
-        let p = tally-push (λ (s : Sleeper). if_same s.thread u) a.sleepers sleeper in
-        let one : if_same t u ≤ 1 = grind (arith, nat_tests, e) in
-        omega (arith, p, z, one)
+          let g : t ≡ u = grind (arith, nat_tests, e) in
+          let z = subst (λ (j : ℕ). tally (λ (s : Sleeper). if_same s.thread j) a.sleepers ≡ 0) g (tally-awake t a.sleepers awake) in
+          let p = tally-push (λ (s : Sleeper). if_same s.thread u) a.sleepers sleeper in
+          let one : if_same t u ≤ 1 = grind (arith, nat_tests, e) in
+          omega (arith, p, z, one)
       counts u false e =
-        let p = tally-push (λ (s : Sleeper). if_same s.thread u) a.sleepers sleeper in
-        let z : if_same t u ≡ 0 = grind (arith, nat_tests, e) in
-        let o = once u in
-        omega (arith, p, z, o)
+          let p = tally-push (λ (s : Sleeper). if_same s.thread u) a.sleepers sleeper in
+          let z : if_same t u ≡ 0 = grind (arith, nat_tests, e) in
+          let o = once u in
+          omega (arith, p, z, o)
 
 -- ---- so every call and delivery goes so
 pub goes-closed : (t : ℕ) → Closed t (GoesAwake t) (GoesOn t)
@@ -307,10 +319,12 @@ goes-closed t = record {
   gone = λ a. record { goes = goes-gone a t; sleep = λ w s o. (w, awake-stay t a (without_thread t a) a.sleepers (λ v n x e. (x, at-cut a.threads t v ∙ ap (λ b. cond b None (at a.threads v)) n ∙ e, refl, refl)) w s, o) };
   woken = λ a process address n. record { goes = wake-goes a process address n; sleep = wake-sleep a process address n t };
   ignored = λ a q signal. record { goes = ignored-goes a q signal; sleep = ignored-sleep a q signal t };
-  falls = λ a address. record { goes = falls-goes t a address; sleep = falls-sleep t a address } }
+  falls = λ a address. record { goes = falls-goes t a address; sleep = falls-sleep t a address };
+}
 
 -- ---- a call begins: the thread is Called
 pub called-goes : (t : ℕ) (a : Node) → GoesAwake t a (set_does t Called a)
 called-goes t a = record {
   goes = goes-threads a (change a.threads t (λ x. record x { does = Called })) (changed-was a.threads t (λ x. record x { does = Called }) (λ x. (refl, refl, λ s. absurd (grind (arith, s)))));
-  sleep = λ w s o. (w, awake-stay t a (set_does t Called a) a.sleepers (λ v n. same-other a t v (λ x. record x { does = Called }) n) w s, o) }
+  sleep = λ w s o. (w, awake-stay t a (set_does t Called a) a.sleepers (λ v n. same-other a t v (λ x. record x { does = Called }) n) w s, o);
+}

@@ -137,5 +137,7 @@ module _ (e : Effect) (sp : Space) (l : pages_count e.added ≤ length (each_in 
       go o s (inl x) = inl (x.0, was-dropped (pages_count e.dropped) e.dropped.lo sp j x.0 x.1, x.2 ∙ s)
       go o s (inr x) =
           let f : o.0.0 ≡ r.0.0 = ap (λ (y : Frame). y.0) s in
-          inr (freed-from (pages_count e.dropped) e.dropped.lo sp r.0.0 (subst (λ (y : ℕ). 1 ≤ copies y less.free) f x.0),
-              ap (λ (m : Map (List ℕ)). frame_bytes m r.0.0) (protect-frames e.rights (pages_count e.protected) e.protected.lo more) ∙ subst (λ (y : ℕ). frame_bytes more.frames y ≡ zero_page) f x.1)
+          inr (
+            freed-from (pages_count e.dropped) e.dropped.lo sp r.0.0 (subst (λ (y : ℕ). 1 ≤ copies y less.free) f x.0),
+            ap (λ (m : Map (List ℕ)). frame_bytes m r.0.0) (protect-frames e.rights (pages_count e.protected) e.protected.lo more) ∙ subst (λ (y : ℕ). frame_bytes more.frames y ≡ zero_page) f x.1,
+          )

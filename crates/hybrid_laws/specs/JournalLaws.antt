@@ -116,14 +116,14 @@ pub record Begins (job : Job) (imgs : List Image) : Type 0 where
 
 pub headline : EachEvent → (job : Job) (imgs : List Image) (journal : List Event) → Begins job imgs → IsLegal job imgs journal → Headline job imgs journal
 headline every job imgs journal b legal = record {
-    boots = b.boots;
-    coherent = f.coherent;
-    simulated = subst (λ (o : One.OneKernel). Runs o (images (boot job imgs) journal) (one (state (boot job imgs) journal))) b.boots f.simulated;
-    events = f.events;
-    one_reply = λ p q. (let a = f.replied p q in let m = gone-most (at (side_of (state (boot job imgs) journal) p).book.rows q) q (side_of (state (boot job imgs) journal) p).book.next in omega (arith, a, m));
-    answered = λ over p q some below. ended over p q some (answered-or-waits (state (boot job imgs) journal) f.coherent f.lasting over p q below);
-    no_stall = no-stall (state (boot job imgs) journal) f.coherent f.lasting;
-  }
+  boots = b.boots;
+  coherent = f.coherent;
+  simulated = subst (λ (o : One.OneKernel). Runs o (images (boot job imgs) journal) (one (state (boot job imgs) journal))) b.boots f.simulated;
+  events = f.events;
+  one_reply = λ p q. (let a = f.replied p q in let m = gone-most (at (side_of (state (boot job imgs) journal) p).book.rows q) q (side_of (state (boot job imgs) journal) p).book.next in omega (arith, a, m));
+  answered = λ over p q some below. ended over p q some (answered-or-waits (state (boot job imgs) journal) f.coherent f.lasting over p q below);
+  no_stall = no-stall (state (boot job imgs) journal) f.coherent f.lasting;
+}
   where
     f : Follows (boot job imgs) journal
     f = follows every journal (boot job imgs) b.coherent b.lasting legal.1

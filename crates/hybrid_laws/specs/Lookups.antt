@@ -20,10 +20,10 @@ module _ {V : Type 0} where
     where
       go : (b : Bool) → (k == x.0) ≡ b → cond b (Some x.1) (fin.find nat_cmp k es) ≡ Some v → (fin.find nat_cmp k es ≡ Some v → P (k, v)) → P (k, v)
       go true f g i =
-        let a : x.0 ≡ k = grind (arith, nat_tests, f) in
-        let b : x.1 ≡ v = cc in
-        let c : x ≡ (k, v) = (λ j. (a j, b j)) in
-        subst P c h.0
+          let a : x.0 ≡ k = grind (arith, nat_tests, f) in
+          let b : x.1 ≡ v = cc in
+          let c : x ≡ (k, v) = (λ j. (a j, b j)) in
+          subst P c h.0
       go false f g i = i g
 
   -- what holds of each entry holds of each row
@@ -72,6 +72,6 @@ caller-found callers q t c alone calls number = record { caller = c; calls = cal
     go : (o : Option (ℕ × Caller)) → find (λ (e : ℕ × Caller). e.1.request == q) (entries callers) ≡ o → option_map (λ (e : ℕ × Caller). e.0) o ≡ Some t
     go None e = absurd (let k = each-at (λ (x : ℕ × Caller). (x.1.request == q) ≡ false) callers t c (found-none (λ (x : ℕ × Caller). x.1.request == q) (entries callers) e) calls in grind (arith, nat_tests, k, number))
     go (Some y) e =
-      let k = found-some (λ (x : ℕ × Caller). x.1.request == q) (λ (x : ℕ × Caller). at callers x.0 ≡ Some x.1) (entries callers) y (each-entry callers) e in
-      let n : y.1.request ≡ c.request = (let f : y.1.request ≡ q = grind (arith, nat_tests, k.1) in f ∙ sym number) in
-      ap Some (alone y.0 t y.1 c k.0 calls n)
+        let k = found-some (λ (x : ℕ × Caller). x.1.request == q) (λ (x : ℕ × Caller). at callers x.0 ≡ Some x.1) (entries callers) y (each-entry callers) e in
+        let n : y.1.request ≡ c.request = (let f : y.1.request ≡ q = grind (arith, nat_tests, k.1) in f ∙ sym number) in
+        ap Some (alone y.0 t y.1 c k.0 calls n)

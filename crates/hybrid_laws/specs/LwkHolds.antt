@@ -103,11 +103,11 @@ module _ (pair : Pair) (c : Coherent pair) where
   holds_quiet_lwk (Events.Run core t n) l m = record { coherent = coherent_run pair c core n t m; simulated = simulated_pair_run pair c core n t m; copies = tt; handed_out = run-handed core n t }
   holds_quiet_lwk (Events.Deliver t) l m = record { coherent = coherent_deliver pair c t m; simulated = simulated_pair_deliver pair c t m; copies = tt; handed_out = deliver-handed t }
   holds_quiet_lwk (Events.BeginVm t) l m =
-    let b = begun-table (thread_of pair.node t.0).process t.0 (change_in (thread_of pair.node t.0).does) (here pair (thread_of pair.node t.0).process) in
-    record { coherent = coherent_begin_vm pair c t m; simulated = simulated_pair_begin_vm pair c t m; copies = tt; handed_out = handed (Events.BeginVm t) b.0 b.1 }
+      let b = begun-table (thread_of pair.node t.0).process t.0 (change_in (thread_of pair.node t.0).does) (here pair (thread_of pair.node t.0).process) in
+      record { coherent = coherent_begin_vm pair c t m; simulated = simulated_pair_begin_vm pair c t m; copies = tt; handed_out = handed (Events.BeginVm t) b.0 b.1 }
   holds_quiet_lwk (Events.Interrupt t) l m =
-    let b = interrupted-table (is_calling (side_of pair (thread_of pair.node t.0).process) t.0) t.0 (here pair (thread_of pair.node t.0).process) in
-    record { coherent = coherent_interrupt pair c t m; simulated = simulated_pair_interrupt pair c t m; copies = tt; handed_out = handed (Events.Interrupt t) b.0 b.1 }
+      let b = interrupted-table (is_calling (side_of pair (thread_of pair.node t.0).process) t.0) t.0 (here pair (thread_of pair.node t.0).process) in
+      record { coherent = coherent_interrupt pair c t m; simulated = simulated_pair_interrupt pair c t m; copies = tt; handed_out = handed (Events.Interrupt t) b.0 b.1 }
   holds_quiet_lwk (Events.Wait t) l m = record { coherent = coherent_wait pair c t m; simulated = simulated_pair_wait pair c t m; copies = tt; handed_out = handed (Events.Wait t) refl refl }
   holds_quiet_lwk (Events.Script i) l m = record { coherent = coherent_script pair c i m; simulated = simulated_pair_script pair c i m; copies = tt; handed_out = handed (Events.Script i) refl refl }
   holds_quiet_lwk (Events.Trap t) l m = absurd (grind (arith, l))
@@ -139,8 +139,8 @@ module _ (pair : Pair) (c : Coherent pair) where
 
     pub coherent_intake : Coherent (after pair (Events.Intake q))
     coherent_intake = by-message (side_of pair q.0).to_lwk (Coherent (after pair (Events.Intake q))) (λ e. absurd (not-empty e))
-      (λ n code rest e. coherent_intake_reply pair c q there n code rest e) (λ rest e. coherent_intake_ack pair c q there rest e) (λ w page a rest e. coherent_intake_fault pair c q there w page a rest e) (c.whole q.0).directions.to_lwk
+        (λ n code rest e. coherent_intake_reply pair c q there n code rest e) (λ rest e. coherent_intake_ack pair c q there rest e) (λ w page a rest e. coherent_intake_fault pair c q there w page a rest e) (c.whole q.0).directions.to_lwk
 
     pub simulated_pair_intake : SimulatedPair pair (Events.Intake q)
     simulated_pair_intake = by-message (side_of pair q.0).to_lwk (SimulatedPair pair (Events.Intake q)) (λ e. absurd (not-empty e))
-      (λ n code rest e. simulated_pair_reply pair c q there n code rest e) (λ rest e. simulated_pair_ack pair c q there rest e) (λ w page a rest e. simulated_pair_fault pair c q there w page a rest e) (c.whole q.0).directions.to_lwk
+        (λ n code rest e. simulated_pair_reply pair c q there n code rest e) (λ rest e. simulated_pair_ack pair c q there rest e) (λ w page a rest e. simulated_pair_fault pair c q there w page a rest e) (c.whole q.0).directions.to_lwk

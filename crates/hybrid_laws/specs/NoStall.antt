@@ -106,10 +106,14 @@ module _ (pair : Pair) (c : Coherent pair) (l : Lasting pair) (over : IsOver pai
     blocked-shown s t x same e =
         let there = caller-there pair c p t x e in
         let f = call-parked pair c l over p there t x e in
-        let m : x.marked ≡ false = false-if x.marked (unmarked pair c l over p there t x e) in
-        (m, ((service_of s.linux.services x.request).progress,
+        let m : x.marked ≡ false = false-if x.marked (unmarked pair c l over p there t x e) in (
+          m,
+          (
+            (service_of s.linux.services x.request).progress,
             ap (λ (z : Side). status_of z x.request) (sym same) ∙ ap (λ st. status_in st (call_in (at (side_of pair p).book.rows x.request)) (service_of (side_of pair p).linux.services x.request) (has_empty (at (side_of pair p).linux.workers) x.request (side_of pair p).to_linux) (reply_code x.request (side_of pair p).to_lwk)) f
-            ∙ ap (λ (z : Side). Blocked (service_of z.linux.services x.request).progress) same))
+                ∙ ap (λ (z : Side). Blocked (service_of z.linux.services x.request).progress) same,
+          ),
+        )
 
     -- each call is blocked and not marked
     pub all-blocked : (t : ℕ) → IsBlocked (at (sees p).own.calls t)
@@ -161,8 +165,8 @@ module _ (pair : Pair) (c : Coherent pair) (l : Lasting pair) (over : IsOver pai
             let f = call-parked pair c l over p there t x.0 x.1 in
             let st : status_of (side_of pair p) q ≡ Blocked (service_of (side_of pair p).linux.services q).progress = ap (λ st. status_in st (call_in (at (side_of pair p).book.rows q)) (service_of (side_of pair p).linux.services q) (has_empty (at (side_of pair p).linux.workers) q (side_of pair p).to_linux) (reply_code q (side_of pair p).to_lwk)) f in
             let d : not (is_not_ready (next_kind pair.node.files (service_of (side_of pair p).linux.services q).progress)) ≡ true =
-                sym (ap (λ (y : OneCall). holds_of (blocked y.status) (λ z. y.marked || not (is_not_ready (next_kind pair.node.files z)))) x.2
-                ∙ (λ i. holds_of (blocked (st i)) (λ z. b i || not (is_not_ready (next_kind pair.node.files z))))) ∙ a.1 in
+            sym (ap (λ (y : OneCall). holds_of (blocked y.status) (λ z. y.marked || not (is_not_ready (next_kind pair.node.files z)))) x.2
+            ∙ (λ i. holds_of (blocked (st i)) (λ z. b i || not (is_not_ready (next_kind pair.node.files z))))) ∙ a.1 in
             not-ready-now pair c l over p there q f d
 
   -- ---- each step
@@ -175,7 +179,7 @@ module _ (pair : Pair) (c : Coherent pair) (l : Lasting pair) (over : IsOver pai
       let b = both (has_thread pair.node t.0 && ready_to_run (thread_of pair.node t.0).does && is_living pair.node (of t.0)) (not (is_deliverable pair.node t.0)) a.0 in
       let d = both (has_thread pair.node t.0 && ready_to_run (thread_of pair.node t.0).does) (is_living pair.node (of t.0)) b.0 in
       event-may (Events.Run (t.0 % pair.cores) t 1) (living-there pair.node (of t.0) d.1)
-          (runs-one (may_run pair.node t.0) (t.0 % pair.cores) (instructions_in_all pair.node) pair.node.limit a.0 a.1)
+      (runs-one (may_run pair.node t.0) (t.0 % pair.cores) (instructions_in_all pair.node) pair.node.limit a.0 a.1)
 
   -- the end of a process
   ends : (p : ℕ) → is_dying pair.node p ≡ true → (some_called pair.node p ≡ false) → ⊥
@@ -272,7 +276,7 @@ module _ (pair : Pair) (c : Coherent pair) (l : Lasting pair) (over : IsOver pai
       go (Steps.Mark t) h = no-mark t.0 h
       go (Steps.Interrupted t) h =
           let f = or-false (is_active (sees (of t.0)) t.0 (λ p. (call_at (sees (of t.0)) t.0).marked && is_not_ready (next_kind pair.node.files p))) (may_be_called_back pair.node t.0)
-              (no-active (of t.0) t.0 (λ p. (call_at (sees (of t.0)) t.0).marked && is_not_ready (next_kind pair.node.files p))) (false-if (may_be_called_back pair.node t.0) (no-call-back t.0)) in grind (arith, f, h)
+          (no-active (of t.0) t.0 (λ p. (call_at (sees (of t.0)) t.0).marked && is_not_ready (next_kind pair.node.files p))) (false-if (may_be_called_back pair.node t.0) (no-call-back t.0)) in grind (arith, f, h)
       go (Steps.Wait t) h = no-wait t h
       go (Steps.Script k) h = no-script k h
       go (Steps.End p) h = let a = both (is_dying pair.node p.0) (not (some_called pair.node p.0)) h in no-dying p.0 a.0

@@ -37,25 +37,29 @@ pub record Keeps (p : ℕ) (free : ℕ → Bool) (node node' : Node) : Type 0 wh
 pub thread-same : (p : ℕ) (free : Bool) (o o' : Option Thread) → o' ≡ o → ThreadKeeps p free o o'
 thread-same p free o o' e = record {
   kept = λ x f m n k. (x, e ∙ f, m, refl, refl);
-  called = λ y f m k. (y, sym e ∙ f, m, k) }
+  called = λ y f m k. (y, sym e ∙ f, m, k);
+}
 
 pub thread-then : (p : ℕ) (free : Bool) (o o' o'' : Option Thread) → ThreadKeeps p free o o' → ThreadKeeps p free o' o'' → ThreadKeeps p free o o''
 thread-then p free o o' o'' a b = record {
   kept = λ x f m n k.
-    let y = a.kept x f m n k in
-    let z = b.kept y.0 y.1 y.2 n (ap is_pinned y.4 ∙ k) in
-    (z.0, z.1, z.2, z.3 ∙ y.3, z.4 ∙ y.4);
-  called = λ y f m k. let x = b.called y f m k in a.called x.0 x.1 x.2 x.3 }
+      let y = a.kept x f m n k in
+      let z = b.kept y.0 y.1 y.2 n (ap is_pinned y.4 ∙ k) in
+      (z.0, z.1, z.2, z.3 ∙ y.3, z.4 ∙ y.4);
+  called = λ y f m k. let x = b.called y f m k in a.called x.0 x.1 x.2 x.3;
+}
 
 pub Keeps-same : (p : ℕ) (free : ℕ → Bool) (node node' : Node) → node'.threads ≡ node.threads → (process_of node' p).heap_base ≡ (process_of node p).heap_base → Keeps p free node node'
 Keeps-same p free node node' e f = record {
   threads = λ u. thread-same p (free u) (at node.threads u) (at node'.threads u) (ap (λ m. at m u) e);
-  heap = f }
+  heap = f;
+}
 
 pub Keeps-then : (p : ℕ) (free : ℕ → Bool) (a b c : Node) → Keeps p free a b → Keeps p free b c → Keeps p free a c
 Keeps-then p free a b c k l = record {
   threads = λ u. thread-then p (free u) (at a.threads u) (at b.threads u) (at c.threads u) (k.threads u) (l.threads u);
-  heap = l.heap ∙ k.heap }
+  heap = l.heap ∙ k.heap;
+}
 
 -- ---- messages by place, where the threads that call keep their places
 pub place-found : (k : ℕ) (o : Option Thread) → place_in k o ≡ true → (x : Thread) × (o ≡ Some x) × (x.place ≡ k)
@@ -63,8 +67,8 @@ place-found k None e = absurd (grind (arith, e))
 place-found k (Some x) e = (x, refl, grind (arith, nat_tests, e))
 
 module _ (rows : Reads (ReqState × Call)) (callers : Reads Caller) (threads threads' : Reads Thread)
-  (stays : (u : ℕ) (c : Caller) → callers u ≡ Some c → (k : ℕ) → place_in k (threads' u) ≡ place_in k (threads u))
-  (live : (q : ℕ) → is_live (state_at rows q) ≡ true → (c : Caller) × (callers (tid_in (rows q)) ≡ Some c)) where
+    (stays : (u : ℕ) (c : Caller) → callers u ≡ Some c → (k : ℕ) → place_in k (threads' u) ≡ place_in k (threads u))
+    (live : (q : ℕ) → is_live (state_at rows q) ≡ true → (c : Caller) × (callers (tid_in (rows q)) ≡ Some c)) where
   interrupt-stays : (next : ℕ) (m : Msg) → InterruptIs next rows threads m → InterruptIs next rows threads' m
   interrupt-stays next (Interrupt n place) h = (h.0, h.1, λ l. let c = live n.0 l in stays (tid_in (rows n.0)) c.0 c.1 place ∙ h.2 l)
   interrupt-stays next (Request c) h = tt
@@ -101,9 +105,9 @@ module _ (rows : Reads (ReqState × Call)) (callers : Reads Caller) (threads thr
       where
         go : OnlyOwn rows threads' ring_of callers r ms
         go u x c a b e f =
-          let same : (x.place == x.place) ≡ true = grind (arith, nat_tests) in
-          let w = place-found x.place (threads u) (sym (stays u c b x.place) ∙ ap (place_in x.place) a ∙ same) in
-          subst (AtMostInterrupt c.request) (ap (λ (k : ℕ). of_place threads k ms) w.2 ∙ sym (of_place-same x.place ms n.0)) (h.0 u w.0 c w.1 b e f)
+            let same : (x.place == x.place) ≡ true = grind (arith, nat_tests) in
+            let w = place-found x.place (threads u) (sym (stays u c b x.place) ∙ ap (place_in x.place) a ∙ same) in
+            subst (AtMostInterrupt c.request) (ap (λ (k : ℕ). of_place threads k ms) w.2 ∙ sym (of_place-same x.place ms n.0)) (h.0 u w.0 c w.1 b e f)
 
     pub messages-stay : (rings : List (List Msg)) → EachRing (RequestIs rows) rings → Messages rows threads ring_of callers rings → Messages rows threads' ring_of callers rings
     messages-stay rings n h = record { placed = placed-stay 0 rings n h.placed; only = only-stay 0 rings n h.only }
@@ -121,8 +125,8 @@ closing-same a b (Brk x) e = ap (λ (h : ℕ). range (page_end x) (page_number (
 
 -- ---- the process whose side stays, where no free thread of it is Called
 module _ (p : ℕ) (free : ℕ → Bool) (threads threads' : Reads Thread)
-  (idle : (u : ℕ) (x : Thread) → free u ≡ true → threads u ≡ Some x → x.process ≡ p → is_called x.does ≡ false)
-  (keeps : (u : ℕ) → ThreadKeeps p (free u) (threads u) (threads' u)) where
+    (idle : (u : ℕ) (x : Thread) → free u ≡ true → threads u ≡ Some x → x.process ≡ p → is_called x.does ≡ false)
+    (keeps : (u : ℕ) → ThreadKeeps p (free u) (threads u) (threads' u)) where
   pub called-stays : (u : ℕ) (x : Thread) → threads u ≡ Some x → x.process ≡ p → is_called x.does ≡ true → (y : Thread) × (threads' u ≡ Some y) × (y.process ≡ p) × (y.place ≡ x.place) × (y.does ≡ x.does)
   called-stays u x e own k = (keeps u).kept x e own (not-free (free u) refl) (rw k refl)
     where
@@ -136,37 +140,38 @@ module _ (p : ℕ) (free : ℕ → Bool) (threads threads' : Reads Thread)
 
     pub places-stay : (u : ℕ) (c : Caller) → callers u ≡ Some c → (k : ℕ) → place_in k (threads' u) ≡ place_in k (threads u)
     places-stay u c e k =
-      let x = caller-thread u c e in
-      let y = called-stays u x.0 x.1 x.2 x.3 in
-      let a = y.1 in let b = x.1 in let d = y.3 in rw (a, b, d) refl
+        let x = caller-thread u c e in
+        let y = called-stays u x.0 x.1 x.2 x.3 in
+        let a = y.1 in let b = x.1 in let d = y.3 in rw (a, b, d) refl
 
     pub calls-stay : CallsAgree p threads' callers
     calls-stay = record {
       called = λ u y e own. go u y e own (is_called y.does) refl (callers u) refl;
-      there = λ u c e. let x = caller-thread u c e in let y = called-stays u x.0 x.1 x.2 x.3 in (y.0, y.1, y.2) }
+      there = λ u c e. let x = caller-thread u c e in let y = called-stays u x.0 x.1 x.2 x.3 in (y.0, y.1, y.2);
+    }
       where
         go : (u : ℕ) (y : Thread) → threads' u ≡ Some y → y.process ≡ p → (b : Bool) → is_called y.does ≡ b → (o : Option Caller) → callers u ≡ o → b ≡ is_some o
         go u y e own true f o g = let x = (keeps u).called y e own f in sym x.3 ∙ agree.called u x.0 x.1 x.2 ∙ ap is_some g
         go u y e own false f None g = refl
         go u y e own false f (Some c) g =
-          let x = caller-thread u c g in
-          let z = called-stays u x.0 x.1 x.2 x.3 in
-          let o = sym z.1 ∙ e in
-          let s : z.0 ≡ y = cc in
-          absurd (let t = sym (ap is_called z.4 ∙ x.3) ∙ ap (λ (w : Thread). is_called w.does) s ∙ f in grind (arith, t))
+            let x = caller-thread u c g in
+            let z = called-stays u x.0 x.1 x.2 x.3 in
+            let o = sym z.1 ∙ e in
+            let s : z.0 ≡ y = cc in
+            absurd (let t = sym (ap is_called z.4 ∙ x.3) ∙ ap (λ (w : Thread). is_called w.does) s ∙ f in grind (arith, t))
 
 -- the round's thread stays, where no free thread of the process is InVm
 module _ (p : ℕ) (free : ℕ → Bool) (threads threads' : Reads Thread)
-  (idle : (u : ℕ) (x : Thread) → free u ≡ true → threads u ≡ Some x → x.process ≡ p → change_in x.does ≡ None)
-  (keeps : (u : ℕ) → ThreadKeeps p (free u) (threads u) (threads' u)) (process process' : Process) (heap : process'.heap_base ≡ process.heap_base) where
+    (idle : (u : ℕ) (x : Thread) → free u ≡ true → threads u ≡ Some x → x.process ≡ p → change_in x.does ≡ None)
+    (keeps : (u : ℕ) → ThreadKeeps p (free u) (threads u) (threads' u)) (process process' : Process) (heap : process'.heap_base ≡ process.heap_base) where
   pub owned-keeps : (round : Option Round) (changing : Option ℕ) → Owned process threads p round changing → Owned process' threads' p round changing
   owned-keeps None None h = tt
   owned-keeps None (Some t) h = absurd h
   owned-keeps (Some r) None h = absurd h
   owned-keeps (Some r) (Some t) h =
-    let does = h.does in
-    let y = (keeps t).kept h.thread h.there h.own (not-free (free t) refl) (rw does refl) in
-    record { thread = y.0; there = y.1; own = y.2; change = h.change; does = y.4 ∙ does; range_is = closing-same process process' h.change heap ∙ h.range_is }
+      let does = h.does in
+      let y = (keeps t).kept h.thread h.there h.own (not-free (free t) refl) (rw does refl) in
+      record { thread = y.0; there = y.1; own = y.2; change = h.change; does = y.4 ∙ does; range_is = closing-same process process' h.change heap ∙ h.range_is }
     where
       not-free : (b : Bool) → free t ≡ b → free t ≡ false
       not-free false f = f
@@ -190,19 +195,22 @@ no-call (Asleep a) e = refl
 no-call (InWait n s) e = refl
 
 module _ (p : ℕ) (free : ℕ → Bool) (side : Side) (node node' : Node) (worker_count : ℕ) (ring_of : ℕ → ℕ) (k : Keeps p free node node')
-  (idle : (u : ℕ) (x : Thread) → free u ≡ true → at node.threads u ≡ Some x → x.process ≡ p → is_pinned x.does ≡ false) where
+    (idle : (u : ℕ) (x : Thread) → free u ≡ true → at node.threads u ≡ Some x → x.process ≡ p → is_pinned x.does ≡ false) where
   -- what holds of a process stays where its own part does, and the node changes so
   pub node-keeps : OfProcess p side node worker_count ring_of → OfProcess p side node' worker_count ring_of
   node-keeps h =
-    let live : (q : ℕ) → is_live (state_at (at side.book.rows) q) ≡ true → (c : Caller) × (at side.lwk.callers (tid_in (at side.book.rows q)) ≡ Some c) = λ q l. calls-found q (at side.lwk.callers (tid_in (at side.book.rows q))) (h.answered.live q l) in
-    let stays = places-stay p free (at node.threads) (at node'.threads) (λ u x f e own. no-call x.does (idle u x f e own)) k.threads (at side.lwk.callers) h.calls in
-    record {
-      covered = h.covered; rounded = h.rounded;
-      owned = owned-keeps p free (at node.threads) (at node'.threads) (λ u x f e own. no-change x.does (idle u x f e own)) k.threads (process_of node p) (process_of node' p) k.heap side.round side.lwk.changing h.owned;
-      served = h.served; answered = h.answered;
-      calls = calls-stay p free (at node.threads) (at node'.threads) (λ u x f e own. no-call x.does (idle u x f e own)) k.threads (at side.lwk.callers) h.calls;
-      asked = h.asked;
-      interrupts = interrupts-stay (at side.book.rows) (at side.lwk.callers) (at node.threads) (at node'.threads) stays live side.book.next side.to_linux h.interrupts;
-      directions = h.directions;
-      messages = messages-stay (at side.book.rows) (at side.lwk.callers) (at node.threads) (at node'.threads) stays live ring_of side.to_linux h.asked h.messages;
-      marked = h.marked }
+      let live : (q : ℕ) → is_live (state_at (at side.book.rows) q) ≡ true → (c : Caller) × (at side.lwk.callers (tid_in (at side.book.rows q)) ≡ Some c) = λ q l. calls-found q (at side.lwk.callers (tid_in (at side.book.rows q))) (h.answered.live q l) in
+      let stays = places-stay p free (at node.threads) (at node'.threads) (λ u x f e own. no-call x.does (idle u x f e own)) k.threads (at side.lwk.callers) h.calls in
+      record {
+        covered = h.covered;
+        rounded = h.rounded;
+        owned = owned-keeps p free (at node.threads) (at node'.threads) (λ u x f e own. no-change x.does (idle u x f e own)) k.threads (process_of node p) (process_of node' p) k.heap side.round side.lwk.changing h.owned;
+        served = h.served;
+        answered = h.answered;
+        calls = calls-stay p free (at node.threads) (at node'.threads) (λ u x f e own. no-call x.does (idle u x f e own)) k.threads (at side.lwk.callers) h.calls;
+        asked = h.asked;
+        interrupts = interrupts-stay (at side.book.rows) (at side.lwk.callers) (at node.threads) (at node'.threads) stays live side.book.next side.to_linux h.interrupts;
+        directions = h.directions;
+        messages = messages-stay (at side.book.rows) (at side.lwk.callers) (at node.threads) (at node'.threads) stays live ring_of side.to_linux h.asked h.messages;
+        marked = h.marked;
+      }

@@ -39,8 +39,9 @@ row-free p f None h = record { kept = λ x e m n k. absurd (grind (arith, n)); c
 row-free p f (Some z) h = record {
   kept = λ x e m n k. absurd (grind (arith, n));
   called = λ y e m k.
-    let g : f z ≡ y = cc in
-    (z, refl, h.process z refl (ap (λ (w : Thread). w.process) g ∙ m), h.called z refl (ap (λ (w : Thread). is_called w.does) g ∙ k)) }
+      let g : f z ≡ y = cc in
+      (z, refl, h.process z refl (ap (λ (w : Thread). w.process) g ∙ m), h.called z refl (ap (λ (w : Thread). is_called w.does) g ∙ k));
+}
 
 -- a thread keeps process, place and doing
 pub record Quiet (f : Thread → Thread) : Type 0 where
@@ -52,11 +53,12 @@ row-quiet : (p : ℕ) (free : Bool) (f : Thread → Thread) (o : Option Thread) 
 row-quiet p free f None h = record { kept = λ x e m n k. absurd (grind (arith, e)); called = λ y e m k. absurd (grind (arith, e)) }
 row-quiet p free f (Some z) h = record {
   kept = λ x e m n k.
-    let g : z ≡ x = cc in
-    (f z, refl, h.process z ∙ ap (λ (w : Thread). w.process) g ∙ m, h.place z ∙ ap (λ (w : Thread). w.place) g, h.does z ∙ ap (λ (w : Thread). w.does) g);
+      let g : z ≡ x = cc in
+      (f z, refl, h.process z ∙ ap (λ (w : Thread). w.process) g ∙ m, h.place z ∙ ap (λ (w : Thread). w.place) g, h.does z ∙ ap (λ (w : Thread). w.does) g);
   called = λ y e m k.
-    let g : f z ≡ y = cc in
-    (z, refl, sym (h.process z) ∙ ap (λ (w : Thread). w.process) g ∙ m, ap is_called (sym (h.does z)) ∙ ap (λ (w : Thread). is_called w.does) g ∙ k) }
+      let g : f z ≡ y = cc in
+      (z, refl, sym (h.process z) ∙ ap (λ (w : Thread). w.process) g ∙ m, ap is_called (sym (h.does z)) ∙ ap (λ (w : Thread). is_called w.does) g ∙ k);
+}
 
 pub row-gone : (p : ℕ) (o : Option Thread) → ThreadKeeps p true o None
 row-gone p o = record { kept = λ x e m n k. absurd (grind (arith, n)); called = λ y e m k. absurd (grind (arith, e)) }
@@ -94,7 +96,8 @@ module _ (p : ℕ) (free : ℕ → Bool) where
   pub change-heap : (node : Node) (q : ℕ) (f : Process → Process) → SameHeap f → Keeps p free node (change_process q f node)
   change-heap node q f h = record {
     threads = λ u. thread-same p (free u) (at node.threads u) (at node.threads u) refl;
-    heap = ap (λ (o : Option Process). (unwrap_or o no_process).heap_base) (at-change node.processes q f p) ∙ go (p == q) refl (at node.processes q) refl }
+    heap = ap (λ (o : Option Process). (unwrap_or o no_process).heap_base) (at-change node.processes q f p) ∙ go (p == q) refl (at node.processes q) refl;
+  }
     where
       go : (b : Bool) → (p == q) ≡ b → (o : Option Process) → at node.processes q ≡ o → (unwrap_or (cond b (option_map f o) (at node.processes p)) no_process).heap_base ≡ (process_of node p).heap_base
       go true e None k = let g : p ≡ q = grind (arith, nat_tests, e) in rw (g, k) refl
@@ -114,6 +117,7 @@ module _ (p : ℕ) (free : ℕ → Bool) where
     where
       fresh : ThreadKeeps p (free u) None (Some x)
       fresh = record { kept = λ z f j l k. absurd (grind (arith, f)); called = λ y f j k. (let g : x ≡ y = cc in absurd (let z = sym e ∙ ap (λ (w : Thread). is_called w.does) g ∙ k in grind (arith, z))) }
+
       go : (b : Bool) → (u == n) ≡ b → ThreadKeeps p (free u) (at m u) (cond b (Some x) (at m u))
       go true k = let g : u ≡ n = grind (arith, nat_tests, k) in rw (g, none) (rw g at fresh)
       go false k = thread-same p (free u) (at m u) (at m u) refl
@@ -134,17 +138,17 @@ module _ (p : ℕ) (free : ℕ → Bool) where
 
   pub for_thread-keeps : (node : Node) (t signal : ℕ) → Keeps p free node (generate_for_thread t signal node)
   for_thread-keeps node t signal = either (ignores (process_of node (thread_of node t).process) signal) (same-node node)
-    (change-quiet node t (λ x. record x { pending = with_signal signal x.pending }) (record { process = λ x. refl; place = λ x. refl; does = λ x. refl }))
+      (change-quiet node t (λ x. record x { pending = with_signal signal x.pending }) (record { process = λ x. refl; place = λ x. refl; does = λ x. refl }))
 
   pub taken-keeps : (node : Node) (t signal : ℕ) → Keeps p free node (taken t signal node)
   taken-keeps node t signal = either (has signal (thread_of node t).pending)
-    (change-quiet node t (λ y. record y { pending = without_signal signal y.pending }) (record { process = λ x. refl; place = λ x. refl; does = λ x. refl }))
-    (change-heap node (thread_of node t).process (λ x. record x { pending = without_signal signal x.pending }) (λ x. refl))
+      (change-quiet node t (λ y. record y { pending = without_signal signal y.pending }) (record { process = λ x. refl; place = λ x. refl; does = λ x. refl }))
+      (change-heap node (thread_of node t).process (λ x. record x { pending = without_signal signal x.pending }) (λ x. refl))
 
   pub moved-keeps : (node : Node) (t : ℕ) → Keeps p free node (moved_to_own t node)
   moved-keeps node t = go (next_signal node t)
     where
-      go : (o : Option ℕ) → Keeps p free node (elim o [ | None ↦ node | Some signal ↦ change_thread t (λ (y : Thread). record y { pending = with_signal signal y.pending }) (taken t signal node) ])
+      go : (o : Option ℕ) → Keeps p free node (elim o [ None ↦ node | Some signal ↦ change_thread t (λ (y : Thread). record y { pending = with_signal signal y.pending }) (taken t signal node) ])
       go None = same-node node
       go (Some signal) = then (taken-keeps node t signal) (change-quiet (taken t signal node) t (λ y. record y { pending = with_signal signal y.pending }) (record { process = λ x. refl; place = λ x. refl; does = λ x. refl }))
 
@@ -153,8 +157,8 @@ module _ (p : ℕ) (free : ℕ → Bool) where
 
   pub raised-free : (node : Node) (t signal : ℕ) → free t ≡ true → Keeps p free node (raised t signal node)
   raised-free node t signal e = either (has signal (thread_of node t).mask || ignores (process_of node (thread_of node t).process) signal)
-    (then (does-free node t Ready e refl) (dies-keeps (set_does t Ready node) (thread_of node t).process (Killed signal)))
-    (change-free node t (λ y. record y { pending = with_signal signal y.pending; does = Ready }) e (record { process = λ x f k. k; called = λ x f k. absurd (grind (arith, k)) }))
+      (then (does-free node t Ready e refl) (dies-keeps (set_does t Ready node) (thread_of node t).process (Killed signal)))
+      (change-free node t (λ y. record y { pending = with_signal signal y.pending; does = Ready }) e (record { process = λ x f k. k; called = λ x f k. absurd (grind (arith, k)) }))
 
   -- pending signals that are ignored from now on are dropped
   pub drop_ignored-keeps : (node : Node) (q signal : ℕ) → Keeps p free node (drop_ignored q signal node)
@@ -164,16 +168,21 @@ module _ (p : ℕ) (free : ℕ → Bool) where
     where
       less : Process → Process
       less x = record x { pending = without_signal signal x.pending }
+
       dropped : Thread → Thread
       dropped y = cond (y.process == q) (record y { pending = without_signal signal y.pending }) y
+
       split : (b : Bool) (y : Thread) → ((cond b (record y { pending = without_signal signal y.pending }) y).process ≡ y.process) × ((cond b (record y { pending = without_signal signal y.pending }) y).place ≡ y.place) × ((cond b (record y { pending = without_signal signal y.pending }) y).does ≡ y.does)
       split true y = (refl, refl, refl)
       split false y = (refl, refl, refl)
+
       quiet : Quiet dropped
       quiet = record { process = λ y. (split (y.process == q) y).0; place = λ y. (split (y.process == q) y).1; does = λ y. (split (y.process == q) y).2 }
+
       mapped : (o : Option Thread) → and_then o (λ v. Some (dropped v)) ≡ option_map dropped o
       mapped None = refl
       mapped (Some y) = refl
+
       go : (u : ℕ) (o : Option Thread) → ThreadKeeps p (free u) o (and_then o (λ v. Some (dropped v)))
       go u o = subst (ThreadKeeps p (free u) o) (sym (mapped o)) (row-quiet p (free u) dropped o quiet)
 
@@ -184,9 +193,9 @@ module _ (p : ℕ) (free : ℕ → Bool) where
   pub returns-free : (node : Node) (t : ℕ) (a : ℤ) → free t ≡ true → Keeps p free node (returns t a node)
   unfolding returns
   returns-free node t a e = either (is_living node (thread_of node t).process)
-    (either (is_error EINTR a) (sent_back-free node t e)
-    (either (is_error EPIPE a) (then (answered-free node t a e) (for_thread-keeps (answered t a node) t 13)) (answered-free node t a e)))
-    (without-free node t e)
+      (either (is_error EINTR a) (sent_back-free node t e)
+      (either (is_error EPIPE a) (then (answered-free node t a e) (for_thread-keeps (answered t a node) t 13)) (answered-free node t a e)))
+      (without-free node t e)
 
   pub finishes-free : (node : Node) (t : ℕ) (a : ℤ) → free t ≡ true → Keeps p free node (finishes t a node)
   unfolding finishes

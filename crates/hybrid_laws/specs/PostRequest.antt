@@ -68,8 +68,8 @@ Each-place P threads k (m ∷ ms) h = go (is_of_place threads k m) refl (Each-pl
     go false e r = r
 
 module _ (p : ℕ) (rows : Reads (ReqState × Call)) (threads threads' : Reads Thread) (ring_of : ℕ → ℕ) (callers : Reads Caller) (q : ℕ) (bs : List Msg) (a : Answered rows callers q bs) (g : CallsAgree p threads callers)
-  (t : ℕ) (x y : Thread) (there : threads t ≡ Some x) (mine : x.process ≡ p) (now : threads' t ≡ Some y) (place : y.place ≡ x.place) (others : (u : ℕ) → u ≢ t → threads' u ≡ threads u)
-  (apart : (u v : ℕ) (d e : Thread) → threads u ≡ Some d → threads v ≡ Some e → d.process ≡ e.process → d.place ≡ e.place → u ≡ v) (idle : callers t ≡ None) (c : Call) (number : c.q.0 ≡ q) (tid : c.tid.0 ≡ t) where
+    (t : ℕ) (x y : Thread) (there : threads t ≡ Some x) (mine : x.process ≡ p) (now : threads' t ≡ Some y) (place : y.place ≡ x.place) (others : (u : ℕ) → u ≢ t → threads' u ≡ threads u)
+    (apart : (u v : ℕ) (d e : Thread) → threads u ≡ Some d → threads v ≡ Some e → d.process ≡ e.process → d.place ≡ e.place → u ≡ v) (idle : callers t ≡ None) (c : Call) (number : c.q.0 ≡ q) (tid : c.tid.0 ≡ t) where
   abbrev rows' : Reads (ReqState × Call)
   rows' = with_at rows q (Some (Posted, c))
 
@@ -101,7 +101,7 @@ module _ (p : ℕ) (rows : Reads (ReqState × Call)) (threads threads' : Reads T
   of-push k (z ∷ ms) m = go (is_of_place threads' k z) (of-push k ms m)
     where
       go : (b : Bool) → of_place threads' k (ms ++ m ∷ []) ≡ of_place threads' k ms ++ (if is_of_place threads' k m then m ∷ [] else [])
-        → (if b then z ∷ of_place threads' k (ms ++ m ∷ []) else of_place threads' k (ms ++ m ∷ [])) ≡ (if b then z ∷ of_place threads' k ms else of_place threads' k ms) ++ (if is_of_place threads' k m then m ∷ [] else [])
+          → (if b then z ∷ of_place threads' k (ms ++ m ∷ []) else of_place threads' k (ms ++ m ∷ [])) ≡ (if b then z ∷ of_place threads' k ms else of_place threads' k ms) ++ (if is_of_place threads' k m then m ∷ [] else [])
       go true e = ap (λ ys. z ∷ ys) e
       go false e = e
 
@@ -114,16 +114,19 @@ module _ (p : ℕ) (rows : Reads (ReqState × Call)) (threads threads' : Reads T
     where
       live : is_live (state_at rows z.q.0) ≡ true
       live = rw h.0.0 refl
+
       calls : calls_it z.q.0 (callers z.tid.0) ≡ true
       calls = rw h.0.0 at (a.live z.q.0 live)
+
       known : (o : Option Caller) → callers z.tid.0 ≡ o → calls_it z.q.0 o ≡ true → ⊥
       known None e k = grind (arith, k)
       known (Some d) e k =
-        let w = g.there z.tid.0 d e in
-        let pl : place_in x.place (Some w.0) ≡ true = ap (place_in x.place) (sym w.1) ∙ h.1 in
-        let same : z.tid.0 ≡ t = apart z.tid.0 t w.0 x w.1 there (w.2 ∙ sym mine) (grind (arith, nat_tests, pl)) in
-        let none = ap callers same ∙ idle in
-        grind (arith, none, e)
+          let w = g.there z.tid.0 d e in
+          let pl : place_in x.place (Some w.0) ≡ true = ap (place_in x.place) (sym w.1) ∙ h.1 in
+          let same : z.tid.0 ≡ t = apart z.tid.0 t w.0 x w.1 there (w.2 ∙ sym mine) (grind (arith, nat_tests, pl)) in
+          let none = ap callers same ∙ idle in
+          grind (arith, none, e)
+
       idle-not : (u : ℕ) → tid_in (rows z.q.0) ≡ u → ⊥
       idle-not u e = known (callers z.tid.0) refl calls
   fine (Interrupt n w) h = (tt, h.0.1)
@@ -164,19 +167,22 @@ module _ (p : ℕ) (rows : Reads (ReqState × Call)) (threads threads' : Reads T
   placed-stays : (r : ℕ) (ms : List Msg) → Ring r ms → Placed rows' threads' ring_of r ms
   placed-stays r ms h = record {
     parts = λ k. subst (IsPart (state_at rows')) (sym (of-place-stays k ms)) (part-stays (of_place threads k ms) (given-place k ms (given-of ms h.1)) (h.0.parts k));
-    own = Each-map (λ m. InOwnRing ring_of rows r m × IsGiven q m) (InOwnRing ring_of rows' r) ms (own-stays r) (Each-both (InOwnRing ring_of rows r) (IsGiven q) ms h.0.own (given-of ms h.1)) }
+    own = Each-map (λ m. InOwnRing ring_of rows r m × IsGiven q m) (InOwnRing ring_of rows' r) ms (own-stays r) (Each-both (InOwnRing ring_of rows r) (IsGiven q) ms h.0.own (given-of ms h.1));
+  }
 
   placed-posted : (r : ℕ) → ring_of t ≡ r → (ms : List Msg) → Ring r ms → Placed rows' threads' ring_of r (ms ++ Request c ∷ [])
   placed-posted r at_r ms h = record {
     parts = λ k. subst (IsPart (state_at rows')) (sym (of-push k ms (Request c) ∙ ap (λ L. L ++ (if place_in k (threads' c.tid.0) then Request c ∷ [] else [])) (of-place-stays k ms))) (go k (x.place == k) refl);
-    own = Each-push (InOwnRing ring_of rows' r) ms (Request c) (placed-stays r ms h).own (ap ring_of tid ∙ at_r) }
+    own = Each-push (InOwnRing ring_of rows' r) ms (Request c) (placed-stays r ms h).own (ap ring_of tid ∙ at_r);
+  }
     where
       ofc : (k : ℕ) → place_in k (threads' c.tid.0) ≡ (x.place == k)
       ofc k = ap (λ u. place_in k (threads' u)) tid ∙ place-stays k t ∙ ap (place_in k) there
+
       go : (k : ℕ) (b : Bool) → (x.place == k) ≡ b → IsPart (state_at rows') (of_place threads k ms ++ (if place_in k (threads' c.tid.0) then Request c ∷ [] else []))
       go k true e =
-        let f : x.place ≡ k = grind (arith, nat_tests, e) in
-        rw (ofc k, e) (push-part (state_at rows) (state_at rows') q (of_place threads k ms) c
+          let f : x.place ≡ k = grind (arith, nat_tests, e) in
+          rw (ofc k, e) (push-part (state_at rows) (state_at rows') q (of_place threads k ms) c
           (subst (λ j. Each (λ m. NoRequest m × IsGiven q m) (of_place threads j ms)) f (Each-map (λ m. (RequestIs rows m × IsGiven q m) × (is_of_place threads x.place m ≡ true)) (λ m. NoRequest m × IsGiven q m) (of_place threads x.place ms) fine (Each-place (λ m. RequestIs rows m × IsGiven q m) threads x.place ms h.1)))
           posted-other (h.0.parts k))
       go k false e = rw (ofc k, e) (subst (IsPart (state_at rows')) (nothing (of_place threads k ms)) (part-stays (of_place threads k ms) (given-place k ms (given-of ms h.1)) (h.0.parts k)))
@@ -188,29 +194,30 @@ module _ (p : ℕ) (rows : Reads (ReqState × Call)) (threads threads' : Reads T
   -- where the Request of a call was fetched
   request-is : (b : Bool) (u : ℕ) (d : Caller) → (if b then Some (record { request = q; marked = false }) else callers u) ≡ Some d → is_posted (state_at rows' d.request) ≡ 0 → (b ≡ false) × (callers u ≡ Some d) × (is_posted (state_at rows d.request) ≡ 0)
   request-is true u d e f =
-    let k : record { request = q; marked = false } ≡ d = cc in
-    let m : q ≡ d.request = ap (λ (z : Caller). z.request) k in
-    absurd (let s : (d.request == q) ≡ true = grind (arith, nat_tests, m) in let z = rw s at f in grind (arith, z))
+      let k : record { request = q; marked = false } ≡ d = cc in
+      let m : q ≡ d.request = ap (λ (z : Caller). z.request) k in
+      absurd (let s : (d.request == q) ≡ true = grind (arith, nat_tests, m) in let z = rw s at f in grind (arith, z))
   request-is false u d e f = (refl, e, (let l = (a.calls u d e).given in grind (arith, nat_tests, l, f)))
 
   only-stays : (r : ℕ) (ms : List Msg) → OnlyOwn rows threads ring_of callers r ms → OnlyOwn rows' threads' ring_of callers' r ms
   only-stays r ms h u z d e f i s =
-    let k = request-is (u == t) u d f s in
-    let th = sym (others u (λ w. grind (arith, nat_tests, w, k.0))) ∙ e in
-    subst (AtMostInterrupt d.request) (sym (of-place-stays z.place ms)) (h u z d th k.1 i k.2)
+      let k = request-is (u == t) u d f s in
+      let th = sym (others u (λ w. grind (arith, nat_tests, w, k.0))) ∙ e in
+      subst (AtMostInterrupt d.request) (sym (of-place-stays z.place ms)) (h u z d th k.1 i k.2)
 
   only-posted : (r : ℕ) (ms : List Msg) → OnlyOwn rows threads ring_of callers r ms → OnlyOwn rows' threads' ring_of callers' r (ms ++ Request c ∷ [])
   only-posted r ms h u z d e f i s =
-    let k = request-is (u == t) u d f s in
-    let th = sym (others u (λ w. grind (arith, nat_tests, w, k.0))) ∙ e in
-    let w = g.there u d k.1 in
-    let zw : w.0 ≡ z = (let o = sym w.1 ∙ th in (let j : w.0 ≡ z = cc in j)) in
-    let differ : place_in z.place (threads' c.tid.0) ≡ false = ap (λ v. place_in z.place (threads' v)) tid ∙ place-stays z.place t ∙ ap (place_in z.place) there ∙ no-clash z u k.0 th (ap (λ (v : Thread). v.process) (sym zw) ∙ w.2) in
-    subst (AtMostInterrupt d.request) (sym (of-push z.place ms (Request c) ∙ ap (λ b. of_place threads' z.place ms ++ (if b then Request c ∷ [] else [])) differ ∙ end (of_place threads' z.place ms) ∙ of-place-stays z.place ms)) (h u z d th k.1 i k.2)
+      let k = request-is (u == t) u d f s in
+      let th = sym (others u (λ w. grind (arith, nat_tests, w, k.0))) ∙ e in
+      let w = g.there u d k.1 in
+      let zw : w.0 ≡ z = (let o = sym w.1 ∙ th in (let j : w.0 ≡ z = cc in j)) in
+      let differ : place_in z.place (threads' c.tid.0) ≡ false = ap (λ v. place_in z.place (threads' v)) tid ∙ place-stays z.place t ∙ ap (place_in z.place) there ∙ no-clash z u k.0 th (ap (λ (v : Thread). v.process) (sym zw) ∙ w.2) in
+      subst (AtMostInterrupt d.request) (sym (of-push z.place ms (Request c) ∙ ap (λ b. of_place threads' z.place ms ++ (if b then Request c ∷ [] else [])) differ ∙ end (of_place threads' z.place ms) ∙ of-place-stays z.place ms)) (h u z d th k.1 i k.2)
     where
       end : (L : List Msg) → L ++ [] ≡ L
       end [] = refl
       end (m ∷ L) = ap (λ ys. m ∷ ys) (end L)
+
       no-clash : (z : Thread) (u : ℕ) → (u == t) ≡ false → threads u ≡ Some z → z.process ≡ p → (x.place == z.place) ≡ false
       no-clash z u k th own = go (x.place == z.place) refl
         where
@@ -224,8 +231,9 @@ module _ (p : ℕ) (rows : Reads (ReqState × Call)) (threads threads' : Reads T
 
   pub Messages-request : (r : ℕ) (rings : List (List Msg)) → ring_of t ≡ r → r < length rings → EachRing (RequestIs rows) rings → EachRing (IsGiven q) rings → Messages rows threads ring_of callers rings → Messages rows' threads' ring_of callers' (post r (Request c) rings)
   Messages-request r rings at_r l asked given h =
-    let e : 0 + r ≡ r = omega arith in
-    record {
-    placed = post-numbered Ring (Placed rows' threads' ring_of) (Request c) 0 r rings l (λ j ms n z. placed-stays j ms z) (λ ms z. subst (λ (j : ℕ). Placed rows' threads' ring_of j (ms ++ Request c ∷ [])) (sym e) (placed-posted r at_r ms (subst (λ (j : ℕ). Ring j ms) e z)))
-      (with-messages 0 rings h.placed (EachRing-both (RequestIs rows) (IsGiven q) rings asked given));
-    only = post-numbered (OnlyOwn rows threads ring_of callers) (OnlyOwn rows' threads' ring_of callers') (Request c) 0 r rings l (λ j ms n z. only-stays j ms z) (λ ms z. subst (λ (j : ℕ). OnlyOwn rows' threads' ring_of callers' j (ms ++ Request c ∷ [])) (sym e) (only-posted r ms (subst (λ (j : ℕ). OnlyOwn rows threads ring_of callers j ms) e z))) h.only }
+      let e : 0 + r ≡ r = omega arith in
+      record {
+        placed = post-numbered Ring (Placed rows' threads' ring_of) (Request c) 0 r rings l (λ j ms n z. placed-stays j ms z) (λ ms z. subst (λ (j : ℕ). Placed rows' threads' ring_of j (ms ++ Request c ∷ [])) (sym e) (placed-posted r at_r ms (subst (λ (j : ℕ). Ring j ms) e z)))
+            (with-messages 0 rings h.placed (EachRing-both (RequestIs rows) (IsGiven q) rings asked given));
+        only = post-numbered (OnlyOwn rows threads ring_of callers) (OnlyOwn rows' threads' ring_of callers') (Request c) 0 r rings l (λ j ms n z. only-stays j ms z) (λ ms z. subst (λ (j : ℕ). OnlyOwn rows' threads' ring_of callers' j (ms ++ Request c ∷ [])) (sym e) (only-posted r ms (subst (λ (j : ℕ). OnlyOwn rows threads ring_of callers j ms) e z))) h.only;
+      }

@@ -60,12 +60,13 @@ module _ {V W : Type 0} (f : V → W) where
   unfolding collect_entries
   count-entries [] s = finmap.len-empty nat_cmp W
   count-entries (e ∷ es) s =
-    let a = both (fin.below_all nat_cmp e.0 es) (fin.is_sorted nat_cmp es) s in
-    let n : at (collect_entries kept es) e.0 ≡ None = at-collect_entries kept es e.0 ∙ ap (λ o. and_then o (kept e.0)) (none-below (λ (v : ℕ × V). 0) e.0 e.0 es (le-refl e.0) a.0) in
-    finmap.len-insert nat_cmp_total (collect_entries kept es) e.0 (f e.1) ∙ ap (λ (o : Option W). cond (is_some o) (count (collect_entries kept es)) (count (collect_entries kept es) + 1)) n ∙ more (count-entries es a.1)
+      let a = both (fin.below_all nat_cmp e.0 es) (fin.is_sorted nat_cmp es) s in
+      let n : at (collect_entries kept es) e.0 ≡ None = at-collect_entries kept es e.0 ∙ ap (λ o. and_then o (kept e.0)) (none-below (λ (v : ℕ × V). 0) e.0 e.0 es (le-refl e.0) a.0) in
+      finmap.len-insert nat_cmp_total (collect_entries kept es) e.0 (f e.1) ∙ ap (λ (o : Option W). cond (is_some o) (count (collect_entries kept es)) (count (collect_entries kept es) + 1)) n ∙ more (count-entries es a.1)
     where
       le-refl : (n : ℕ) → n ≤ n
       le-refl n = omega arith
+
       more : count (collect_entries kept es) ≡ length es → count (collect_entries kept es) + 1 ≡ suc (length es)
       more e = omega (arith, e)
 
@@ -94,11 +95,11 @@ no-messages (m ∷ ms) e = absurd (grind (arith, nat_tests, e))
 
 pub reaps : (p : ℕ) (h : Here) → may_reap p h ≡ true → MayReap p h
 reaps p h e =
-  let a = both (OneSteps.may_end h.node p && is_none h.side.round && all_empty h.side.to_linux) (length h.side.to_lwk == 0) e in
-  let b = both (OneSteps.may_end h.node p && is_none h.side.round) (all_empty h.side.to_linux) a.0 in
-  let c = both (OneSteps.may_end h.node p) (is_none h.side.round) b.0 in
-  let d = both (is_dying h.node p) (not (OneSteps.some_called h.node p)) c.0 in
-  record { ends = c.0; called = not-true (OneSteps.some_called h.node p) d.1; round = none-is h.side.round c.1; to_linux = b.1; to_lwk = no-messages h.side.to_lwk a.1 }
+    let a = both (OneSteps.may_end h.node p && is_none h.side.round && all_empty h.side.to_linux) (length h.side.to_lwk == 0) e in
+    let b = both (OneSteps.may_end h.node p && is_none h.side.round) (all_empty h.side.to_linux) a.0 in
+    let c = both (OneSteps.may_end h.node p) (is_none h.side.round) b.0 in
+    let d = both (is_dying h.node p) (not (OneSteps.some_called h.node p)) c.0 in
+    record { ends = c.0; called = not-true (OneSteps.some_called h.node p) d.1; round = none-is h.side.round c.1; to_linux = b.1; to_lwk = no-messages h.side.to_lwk a.1 }
 
 module _ (p : ℕ) (q : Pid) (h : Here) (m : may_here (Events.Reap q) h ≡ true) (same : q.0 ≡ p) where
   abbrev pub w : MayReap p h
@@ -113,7 +114,7 @@ module _ (p : ℕ) (q : Pid) (h : Here) (m : may_here (Events.Reap q) h ≡ true
   pub others_reap : (other : ℕ) (side : Side) (workers : ℕ) (ring : ℕ → ℕ) → p ≢ other → OfProcess other side h.node workers ring → OfProcess other side (after_here (Events.Reap q) p h).node workers ring
   unfolding reap
   others_reap other side workers ring differ k = node-keeps other of_p side h.node (process_ended p h.node) workers ring (keeps other)
-    (λ u x f e own. absurd (differ (let g = ap (λ (z : Thread). z.process == p) (sym (thread-is h.node u x e)) ∙ f in let z : x.process ≡ p = grind (arith, nat_tests, g) in sym z ∙ own))) k
+      (λ u x f e own. absurd (differ (let g = ap (λ (z : Thread). z.process == p) (sym (thread-is h.node u x e)) ∙ f in let z : x.process ≡ p = grind (arith, nat_tests, g) in sym z ∙ own))) k
 
   module _ (workers : ℕ) (ring : ℕ → ℕ) (k : OfProcess p h.side h.node workers ring) where
     pub no-caller : (t : ℕ) → at h.side.lwk.callers t ≡ None
@@ -122,11 +123,11 @@ module _ (p : ℕ) (q : Pid) (h : Here) (m : may_here (Events.Reap q) h ≡ true
         go : (o : Option Caller) → at h.side.lwk.callers t ≡ o → at h.side.lwk.callers t ≡ None
         go None e = e
         go (Some c) e =
-          let x = k.calls.there t c e in
-          let l : is_called x.0.does ≡ true = k.calls.called t x.0 x.1 x.2 ∙ ap is_some e in
-          let own = x.2 in
-          let n = no-row (λ u (y : Thread). y.process == p && is_called y.does) h.node.threads w.called t x.0 x.1 in
-          absurd (clash (x.0.process == p) (is_called x.0.does) (let z : (x.0.process == p) ≡ true = grind (arith, nat_tests, own) in z) l n)
+            let x = k.calls.there t c e in
+            let l : is_called x.0.does ≡ true = k.calls.called t x.0 x.1 x.2 ∙ ap is_some e in
+            let own = x.2 in
+            let n = no-row (λ u (y : Thread). y.process == p && is_called y.does) h.node.threads w.called t x.0 x.1 in
+            absurd (clash (x.0.process == p) (is_called x.0.does) (let z : (x.0.process == p) ≡ true = grind (arith, nat_tests, own) in z) l n)
           where
             clash : (a b : Bool) → a ≡ true → b ≡ true → (a && b) ≡ false → ⊥
             clash a b e f g = grind (arith, e, f, g)
@@ -138,10 +139,10 @@ module _ (p : ℕ) (q : Pid) (h : Here) (m : may_here (Events.Reap q) h ≡ true
         go : (o : Option (ReqState × Call)) → at h.side.book.rows x ≡ o → at h.side.book.rows x ≡ None
         go None e = e
         go (Some r) e =
-          let l : is_live (state_at (at h.side.book.rows) x) ≡ true = ap (λ (o : Option (ReqState × Call)). is_live (state_in o)) e ∙ k.answered.not_replied x r e in
-          let c = k.answered.live x l in
-          let n = no-caller (tid_in (at h.side.book.rows x)) in
-          absurd (let d = sym (ap (calls_it x) n) ∙ c in grind (arith, d))
+            let l : is_live (state_at (at h.side.book.rows) x) ≡ true = ap (λ (o : Option (ReqState × Call)). is_live (state_in o)) e ∙ k.answered.not_replied x r e in
+            let c = k.answered.live x l in
+            let n = no-caller (tid_in (at h.side.book.rows x)) in
+            absurd (let d = sym (ap (calls_it x) n) ∙ c in grind (arith, d))
 
     pub no-worker : (v : ℕ) → at h.side.linux.workers v ≡ None
     no-worker v = go (at h.side.linux.workers v) refl
@@ -149,9 +150,9 @@ module _ (p : ℕ) (q : Pid) (h : Here) (m : may_here (Events.Reap q) h ≡ true
         go : (o : Option ℕ) → at h.side.linux.workers v ≡ o → at h.side.linux.workers v ≡ None
         go None e = e
         go (Some x) e =
-          let a = k.served.workers_hold v x e in
-          let n = no-request x in
-          absurd (let b = sym (ap (λ (o : Option (ReqState × Call)). holder (state_in o) (service_at (at h.side.linux.services) x).worker) n) ∙ a in grind (arith, b))
+            let a = k.served.workers_hold v x e in
+            let n = no-request x in
+            absurd (let b = sym (ap (λ (o : Option (ReqState × Call)). holder (state_in o) (service_at (at h.side.linux.services) x).worker) n) ∙ a in grind (arith, b))
 
     pub no-pinned : (v : ℕ) → at h.side.linux.pins v ≡ None
     no-pinned v = go (at h.side.linux.pins v) refl
@@ -173,16 +174,21 @@ module _ (p : ℕ) (q : Pid) (h : Here) (m : may_here (Events.Reap q) h ≡ true
         ended = change_process p (λ (y : Process). record y { life = life_ended y.life }) (record h.node {
           threads = collect (λ t (y : Thread). cond (y.process == p) None (Some y)) h.node.threads;
           sleepers = filter (λ (y : Sleeper). not (y.process == p)) h.node.sleepers;
-          files = close_all p h.node.files })
+          files = close_all p h.node.files;
+        })
+
         told : (b c : Bool) → at (cond b (cond c ended (change_process (process_of h.node p).parent (λ (y : Process). record y { pending = with_signal 17 y.pending }) ended)) ended).threads u ≡ at ended.threads u
         told true true = refl
         told true false = refl
         told false c = refl
+
         rest-of : at (process_ended p h.node).threads u ≡ at ended.threads u
         rest-of = told (is_living ended (process_of h.node p).parent) (ignores (process_of ended (process_of h.node p).parent) 17)
+
         row : (y : Thread) (b : Bool) → (y.process == p) ≡ b → cond b None (Some y) ≡ Some x → ⊥
         row y true f g = grind (arith, g)
         row y false f g = let z : y ≡ x = cc in let o = ap (λ (v : Thread). v.process == p) z in grind (arith, nat_tests, f, o, own)
+
         go : (o : Option Thread) → and_then o (λ (y : Thread). cond (y.process == p) None (Some y)) ≡ Some x → ⊥
         go None f = grind (arith, f)
         go (Some y) f = row y (y.process == p) refl f
@@ -190,26 +196,36 @@ module _ (p : ℕ) (q : Pid) (h : Here) (m : may_here (Events.Reap q) h ≡ true
     pub keeps_reap : OfProcess p (after_here (Events.Reap q) p h).side (after_here (Events.Reap q) p h).node workers ring
     unfolding reap
     keeps_reap =
-      let e = w.to_linux in
-      record {
-        covered = record {
-          mirror_rows = λ i r f. absurd (let n = sym (at-none i) ∙ f in grind (arith, n));
-          answers = each-empty (AnswerCovered (at no_rows) h.side.linux.cleared) h.side.to_linux e;
-          not_ahead = k.covered.not_ahead;
-          pin_rows = λ v x f. absurd (let n = sym (no-pinned v) ∙ f in grind (arith, n)) };
-        rounded = record {
-          clears_are = k.rounded.clears_are; acks_are = k.rounded.acks_are; clear_of = k.rounded.clear_of; fetched = k.rounded.fetched; outside = k.rounded.outside;
-          mirror_outside = λ i f. at-none i; pins_outside = k.rounded.pins_outside };
-        owned = not-owned h.side.round h.side.lwk.changing w.round (process_of h.node p) (process_of (process_ended p h.node) p) (at h.node.threads) (at (process_ended p h.node).threads) k.owned;
-        served = k.served; answered = k.answered;
-        calls = record { called = λ u x f own. absurd (gone u x f own); there = λ u c f. absurd (let n = sym (no-caller u) ∙ f in grind (arith, n)) };
-        asked = k.asked;
-        interrupts = each-empty (InterruptIs h.side.book.next (at h.side.book.rows) (at (process_ended p h.node).threads)) h.side.to_linux e;
-        directions = k.directions;
-        messages = record {
-          placed = numbered-empty (Placed (at h.side.book.rows) (at (process_ended p h.node).threads) ring) (λ r. record { parts = λ j. tt; own = tt }) 0 h.side.to_linux e;
-          only = numbered-empty (OnlyOwn (at h.side.book.rows) (at (process_ended p h.node).threads) ring (at h.side.lwk.callers)) (λ r t x c a b d f. tt) 0 h.side.to_linux e };
-        marked = k.marked }
+        let e = w.to_linux in
+        record {
+          covered = record {
+            mirror_rows = λ i r f. absurd (let n = sym (at-none i) ∙ f in grind (arith, n));
+            answers = each-empty (AnswerCovered (at no_rows) h.side.linux.cleared) h.side.to_linux e;
+            not_ahead = k.covered.not_ahead;
+            pin_rows = λ v x f. absurd (let n = sym (no-pinned v) ∙ f in grind (arith, n));
+          };
+          rounded = record {
+            clears_are = k.rounded.clears_are;
+            acks_are = k.rounded.acks_are;
+            clear_of = k.rounded.clear_of;
+            fetched = k.rounded.fetched;
+            outside = k.rounded.outside;
+            mirror_outside = λ i f. at-none i;
+            pins_outside = k.rounded.pins_outside;
+          };
+          owned = not-owned h.side.round h.side.lwk.changing w.round (process_of h.node p) (process_of (process_ended p h.node) p) (at h.node.threads) (at (process_ended p h.node).threads) k.owned;
+          served = k.served;
+          answered = k.answered;
+          calls = record { called = λ u x f own. absurd (gone u x f own); there = λ u c f. absurd (let n = sym (no-caller u) ∙ f in grind (arith, n)) };
+          asked = k.asked;
+          interrupts = each-empty (InterruptIs h.side.book.next (at h.side.book.rows) (at (process_ended p h.node).threads)) h.side.to_linux e;
+          directions = k.directions;
+          messages = record {
+            placed = numbered-empty (Placed (at h.side.book.rows) (at (process_ended p h.node).threads) ring) (λ r. record { parts = λ j. tt; own = tt }) 0 h.side.to_linux e;
+            only = numbered-empty (OnlyOwn (at h.side.book.rows) (at (process_ended p h.node).threads) ring (at h.side.lwk.callers)) (λ r t x c a b d f. tt) 0 h.side.to_linux e;
+          };
+          marked = k.marked;
+        }
 
     -- ---- the step
     pub simulated_reap : h.born ≡ None → Simulated (Events.Reap q) p h
@@ -218,9 +234,12 @@ module _ (p : ℕ) (q : Pid) (h : Here) (m : may_here (Events.Reap q) h ≡ true
       where
         memory : no_rows ≡ shown_memory no_rows h.frames
         memory = sym (each-none (shown_row h.frames) no_rows (λ i. at-none i))
+
         calls : no_rows ≡ each (shown_call (record h.side { lwk = record h.side.lwk { table = no_rows }; linux = record h.side.linux { mirror = no_rows } })) h.side.lwk.callers
         calls = sym (each-none (shown_call (record h.side { lwk = record h.side.lwk { table = no_rows }; linux = record h.side.linux { mirror = no_rows } })) h.side.lwk.callers no-caller)
+
         free : length h.free + count (shown_memory h.side.lwk.table h.frames) ≡ length (freed h.side.lwk.table h.free)
         free = ap (λ (n : ℕ). length h.free + n) (count-each (shown_row h.frames) h.side.lwk.table ∙ finmap.len-entries h.side.lwk.table) ∙ sym (length-freed (entries h.side.lwk.table) h.free)
+
         leads : OneSteps.after_here (Steps.End q) p (shown_here h) ≡ shown_here (reap p h)
         leads = λ i. record { own = record { memory = memory i; calls = calls i }; node = process_ended p h.node; free = free i; born = shown_born h.frames h.born }

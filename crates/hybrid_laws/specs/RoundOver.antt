@@ -52,9 +52,10 @@ module _ (r : Round) (table table' mirror : Reads Row) (pins : Reads Pin) (begun
   covered-ack = record {
     mirror_rows = λ i x e. covers-outside i x (outside-of (in_range r.1 i) i refl (λ t. let k = d.mirror_outside i (rw (was-acked, t) refl) in grind (arith, k, e))) (c.mirror_rows i x e);
     answers = EachRing-map (λ m. (NotAhead begun m × IsOutside (Some r) begun m) × AnswerCovered table cleared m) (AnswerCovered table' cleared) rings answer-outside
-      (EachRing-both (λ m. NotAhead begun m × IsOutside (Some r) begun m) (AnswerCovered table cleared) rings (EachRing-both (NotAhead begun) (IsOutside (Some r) begun) rings c.not_ahead d.outside) c.answers);
+        (EachRing-both (λ m. NotAhead begun m × IsOutside (Some r) begun m) (AnswerCovered table cleared) rings (EachRing-both (NotAhead begun) (IsOutside (Some r) begun) rings c.not_ahead d.outside) c.answers);
     not_ahead = c.not_ahead;
-    pin_rows = λ w x e. covers-outside x.page (x.frame, x.rights) (let k = d.pins_outside w x e in rw was-acked at k) (c.pin_rows w x e) }
+    pin_rows = λ w x e. covers-outside x.page (x.frame, x.rights) (let k = d.pins_outside w x e in rw was-acked at k) (c.pin_rows w x e);
+  }
 
   no-clear : (m : Msg) → clears m ≡ 0 → ClearIsOf (Some r) m → ClearIsOf None m
   no-clear (Clear y) e h = absurd (omega (arith, e))
@@ -83,39 +84,51 @@ module _ (r : Round) (table table' mirror : Reads Row) (pins : Reads Pin) (begun
     fetched = let k = d.fetched in let z = none-posted in omega (arith, k, z);
     outside = EachRing-map (IsOutside (Some r) begun) (IsOutside None begun) rings never-closed d.outside;
     mirror_outside = λ i k. absurd (grind (arith, k));
-    pins_outside = λ w x e. refl }
+    pins_outside = λ w x e. refl;
+  }
 
 -- ---- the whole process
 module _ (p : ℕ) (side : Side) (node node' : Node) (workers : ℕ) (ring : ℕ → ℕ) (h : OfProcess p side node workers ring) (rest : List Msg) (first : side.to_lwk ≡ Ack ∷ rest) (r : Round) (round : side.round ≡ Some r) (t : ℕ) (changing : side.lwk.changing ≡ Some t)
-  (table' : Map Row) (agree : (i : ℕ) → in_range r.1 i ≡ false → at table' i ≡ at side.lwk.table i) (keeps : Keeps p (λ u. u == t) node node') where
+    (table' : Map Row) (agree : (i : ℕ) → in_range r.1 i ≡ false → at table' i ≡ at side.lwk.table i) (keeps : Keeps p (λ u. u == t) node node') where
   owns : Owns (process_of node p) (at node.threads) p t r.1
   owns = rw (round, changing) at h.owned
 
   idle : (u : ℕ) (x : Thread) → (u == t) ≡ true → at node.threads u ≡ Some x → x.process ≡ p → is_called x.does ≡ false
   idle u x e f own =
-    let g : u ≡ t = grind (arith, nat_tests, e) in
-    let o = sym owns.there ∙ ap (at node.threads) (sym g) ∙ f in
-    let s : owns.thread ≡ x = cc in
-    ap (λ (z : Thread). is_called z.does) (sym s) ∙ ap is_called owns.does
+      let g : u ≡ t = grind (arith, nat_tests, e) in
+      let o = sym owns.there ∙ ap (at node.threads) (sym g) ∙ f in
+      let s : owns.thread ≡ x = cc in
+      ap (λ (z : Thread). is_called z.does) (sym s) ∙ ap is_called owns.does
 
   pub keeps_round_over : OfProcess p (record side { lwk = record side.lwk { table = table'; changing = None }; round = None; to_lwk = rest }) node' workers ring
   keeps_round_over =
-    let d = rw (round, first) at h.rounded in
-    let s : Served workers (at side.linux.workers) (at side.book.rows) (at side.linux.services) (at side.linux.pins) side.book.waiting (at side.lwk.noted) side.to_linux (Ack ∷ rest) = rw first at h.served in
-    let e : Directions side.to_linux (Ack ∷ rest) = rw first at h.directions in
-    let live : (q : ℕ) → is_live (state_at (at side.book.rows) q) ≡ true → (c : Caller) × (at side.lwk.callers (tid_in (at side.book.rows q)) ≡ Some c) = λ q l. calls-found q (at side.lwk.callers (tid_in (at side.book.rows q))) (h.answered.live q l) in
-    let stays = places-stay p (λ u. u == t) (at node.threads) (at node'.threads) idle keeps.threads (at side.lwk.callers) h.calls in
-    record {
-      covered = covered-ack r (at side.lwk.table) (at table') (at side.linux.mirror) (at side.linux.pins) side.lwk.begun side.linux.cleared side.to_linux rest agree h.covered d;
-      rounded = rounded-ack r (at side.lwk.table) (at table') (at side.linux.mirror) (at side.linux.pins) side.lwk.begun side.linux.cleared side.to_linux rest agree h.covered d;
-      owned = tt;
-      served = record {
-        worker_below = s.worker_below; requests = s.requests; waits = s.waits; known = s.known; workers_hold = s.workers_hold; held_by = s.held_by;
-        faults = λ w. omega (arith, s.faults w); fault_for = s.fault_for.1; noted_for = s.noted_for; answer_for = s.answer_for; pins_serve = s.pins_serve };
-      answered = Answered-pop (at side.book.rows) (at side.lwk.callers) side.book.next Ack rest (λ q. refl) (rw first at h.answered);
-      calls = calls-stay p (λ u. u == t) (at node.threads) (at node'.threads) idle keeps.threads (at side.lwk.callers) h.calls;
-      asked = h.asked;
-      interrupts = interrupts-stay (at side.book.rows) (at side.lwk.callers) (at node.threads) (at node'.threads) stays live side.book.next side.to_linux h.interrupts;
-      directions = record { to_linux = e.to_linux; to_lwk = e.to_lwk.1 };
-      messages = messages-stay (at side.book.rows) (at side.lwk.callers) (at node.threads) (at node'.threads) stays live ring side.to_linux h.asked h.messages;
-      marked = h.marked }
+      let d = rw (round, first) at h.rounded in
+      let s : Served workers (at side.linux.workers) (at side.book.rows) (at side.linux.services) (at side.linux.pins) side.book.waiting (at side.lwk.noted) side.to_linux (Ack ∷ rest) = rw first at h.served in
+      let e : Directions side.to_linux (Ack ∷ rest) = rw first at h.directions in
+      let live : (q : ℕ) → is_live (state_at (at side.book.rows) q) ≡ true → (c : Caller) × (at side.lwk.callers (tid_in (at side.book.rows q)) ≡ Some c) = λ q l. calls-found q (at side.lwk.callers (tid_in (at side.book.rows q))) (h.answered.live q l) in
+      let stays = places-stay p (λ u. u == t) (at node.threads) (at node'.threads) idle keeps.threads (at side.lwk.callers) h.calls in
+      record {
+        covered = covered-ack r (at side.lwk.table) (at table') (at side.linux.mirror) (at side.linux.pins) side.lwk.begun side.linux.cleared side.to_linux rest agree h.covered d;
+        rounded = rounded-ack r (at side.lwk.table) (at table') (at side.linux.mirror) (at side.linux.pins) side.lwk.begun side.linux.cleared side.to_linux rest agree h.covered d;
+        owned = tt;
+        served = record {
+          worker_below = s.worker_below;
+          requests = s.requests;
+          waits = s.waits;
+          known = s.known;
+          workers_hold = s.workers_hold;
+          held_by = s.held_by;
+          faults = λ w. omega (arith, s.faults w);
+          fault_for = s.fault_for.1;
+          noted_for = s.noted_for;
+          answer_for = s.answer_for;
+          pins_serve = s.pins_serve;
+        };
+        answered = Answered-pop (at side.book.rows) (at side.lwk.callers) side.book.next Ack rest (λ q. refl) (rw first at h.answered);
+        calls = calls-stay p (λ u. u == t) (at node.threads) (at node'.threads) idle keeps.threads (at side.lwk.callers) h.calls;
+        asked = h.asked;
+        interrupts = interrupts-stay (at side.book.rows) (at side.lwk.callers) (at node.threads) (at node'.threads) stays live side.book.next side.to_linux h.interrupts;
+        directions = record { to_linux = e.to_linux; to_lwk = e.to_lwk.1 };
+        messages = messages-stay (at side.book.rows) (at side.lwk.callers) (at node.threads) (at node'.threads) stays live ring side.to_linux h.asked h.messages;
+        marked = h.marked;
+      }

@@ -40,23 +40,28 @@ pub record Runs (node : Node) (t : ℕ) : Type 0 where
 
 pub may-runs : (node : Node) (t : ℕ) → may_run node t ≡ true → Runs node t
 may-runs node t e =
-  let x = thread_of node t in
-  let a = both (is_some (at node.threads t) && ready_to_run x.does && is_living node x.process) (not (is_deliverable node t)) e in
-  let b = both (is_some (at node.threads t) && ready_to_run x.does) (is_living node x.process) a.0 in
-  let c = both (is_some (at node.threads t)) (ready_to_run x.does) b.0 in
-  let y = some-is (at node.threads t) c.0 in
-  let f = thread-is node t y.0 y.1 in
-  record { thread = y.0; there = y.1; ready = ready-is y.0.does (ap (λ (z : Thread). ready_to_run z.does) (sym f) ∙ c.1);
-    living = ap (λ (z : Thread). is_living node z.process) (sym f) ∙ b.1; quiet = not-true (is_deliverable node t) a.1 }
+    let x = thread_of node t in
+    let a = both (is_some (at node.threads t) && ready_to_run x.does && is_living node x.process) (not (is_deliverable node t)) e in
+    let b = both (is_some (at node.threads t) && ready_to_run x.does) (is_living node x.process) a.0 in
+    let c = both (is_some (at node.threads t)) (ready_to_run x.does) b.0 in
+    let y = some-is (at node.threads t) c.0 in
+    let f = thread-is node t y.0 y.1 in
+    record {
+      thread = y.0;
+      there = y.1;
+      ready = ready-is y.0.does (ap (λ (z : Thread). ready_to_run z.does) (sym f) ∙ c.1);
+      living = ap (λ (z : Thread). is_living node z.process) (sym f) ∙ b.1;
+      quiet = not-true (is_deliverable node t) a.1;
+    }
 
 pub runs-may : (node : Node) (t : ℕ) → Runs node t → may_run node t ≡ true
 runs-may node t r =
-  let there = r.there in let ready = r.ready in
-  let a : is_some (at node.threads t) ≡ true = ap is_some there in
-  let x = thread-is node t r.thread there in
-  let b : ready_to_run (thread_of node t).does ≡ true = ap (λ (z : Thread). ready_to_run z.does) x ∙ ap ready_to_run ready in
-  let c : is_living node (thread_of node t).process ≡ true = ap (λ (z : Thread). is_living node z.process) x ∙ r.living in
-  four (is_some (at node.threads t)) (ready_to_run (thread_of node t).does) (is_living node (thread_of node t).process) (is_deliverable node t) a b c r.quiet
+    let there = r.there in let ready = r.ready in
+    let a : is_some (at node.threads t) ≡ true = ap is_some there in
+    let x = thread-is node t r.thread there in
+    let b : ready_to_run (thread_of node t).does ≡ true = ap (λ (z : Thread). ready_to_run z.does) x ∙ ap ready_to_run ready in
+    let c : is_living node (thread_of node t).process ≡ true = ap (λ (z : Thread). is_living node z.process) x ∙ r.living in
+    four (is_some (at node.threads t)) (ready_to_run (thread_of node t).does) (is_living node (thread_of node t).process) (is_deliverable node t) a b c r.quiet
   where
     four : (a b c d : Bool) → a ≡ true → b ≡ true → c ≡ true → d ≡ false → (a && b && c && not d) ≡ true
     four a b c d e f g h = rw (e, f, g, h) refl
@@ -68,11 +73,11 @@ pub record MayRun (t n : ℕ) (h : Here) : Type 0 where
 
 pub may-run : (core t n : ℕ) (h : Here) → may_run_for core t n h ≡ true → MayRun t n h
 may-run core t n h e =
-  let a = both (may_run h.node t && t % h.cores == core && nat_le 1 n && nat_le n 64) (nat_le n (left_of_limit h.node)) e in
-  let b = both (may_run h.node t && t % h.cores == core && nat_le 1 n) (nat_le n 64) a.0 in
-  let c = both (may_run h.node t && t % h.cores == core) (nat_le 1 n) b.0 in
-  let d = both (may_run h.node t) (t % h.cores == core) c.0 in
-  record { runs = may-runs h.node t d.0; some = grind (arith, nat_tests, c.1); left = grind (arith, nat_tests, a.1) }
+    let a = both (may_run h.node t && t % h.cores == core && nat_le 1 n && nat_le n 64) (nat_le n (left_of_limit h.node)) e in
+    let b = both (may_run h.node t && t % h.cores == core && nat_le 1 n) (nat_le n 64) a.0 in
+    let c = both (may_run h.node t && t % h.cores == core) (nat_le 1 n) b.0 in
+    let d = both (may_run h.node t) (t % h.cores == core) c.0 in
+    record { runs = may-runs h.node t d.0; some = grind (arith, nat_tests, c.1); left = grind (arith, nat_tests, a.1) }
 
 module _ (core n p : ℕ) (t : Tid) (h : Here) (m : may_here (Run core t n) h ≡ true) where
   w : MayRun t.0 n h
@@ -82,7 +87,7 @@ module _ (core n p : ℕ) (t : Tid) (h : Here) (m : may_here (Run core t n) h �
   pub keeps_run : (q : ℕ) (side : Side) (workers : ℕ) (ring : ℕ → ℕ) → OfProcess q side h.node workers ring → OfProcess q side (after_here (Run core t n) p h).node workers ring
   unfolding run
   keeps_run q side workers ring k =
-    node-keeps q (λ u. u == t.0) side h.node (ran t.0 n h).node workers ring
+      node-keeps q (λ u. u == t.0) side h.node (ran t.0 n h).node workers ring
       (run_for-keeps q (λ u. u == t.0) n t.0 (record { node = h.node; memory = memory_here h }) (let e : (t.0 == t.0) ≡ true = grind (arith, nat_tests) in e))
       (idle-one q t.0 h.node w.runs.thread w.runs.there (let r = w.runs.ready in rw r refl)) k
 
@@ -97,19 +102,23 @@ module _ (p : ℕ) (t : Tid) (calls : Map OneCall) (free : ℕ) (born : Option (
     where
       w : Ran
       w = executed t.0 v
+
       go : (b : Bool) → steps_after p (replicate (length_of_run n t.0 w) (Steps.Instr t)) (ran_shown w) ≡ ran_shown (run_for n t.0 w) → steps_after p (replicate (cond b (length_of_run n t.0 w) zero) (Steps.Instr t)) (ran_shown w) ≡ ran_shown (cond b (run_for n t.0 w) w)
       go true k = k
       go false k = refl
 
   next-runs : (v : Ran) (r : Runs v.node t.0) → ready_to_run (thread_of (executed t.0 v).node t.0).does ≡ true → Runs (executed t.0 v).node t.0
   next-runs v r e =
-    let o = instr (thread_of v.node t.0).regs v.memory in
-    let a = counted-thread v.node t.0 o r.thread r.there in
-    let f = thread-is (executed t.0 v).node t.0 (record r.thread { regs = o.regs; does = does_after o.stop; back = false }) a in
-    record { thread = record r.thread { regs = o.regs; does = does_after o.stop; back = false }; there = a;
-      ready = ready-is (does_after o.stop) (ap (λ (z : Thread). ready_to_run z.does) (sym f) ∙ e);
-      living = counted-living v.node t.0 o r.thread r.there r.thread.process ∙ r.living;
-      quiet = counted-deliverable v.node t.0 o r.thread r.there ∙ r.quiet }
+      let o = instr (thread_of v.node t.0).regs v.memory in
+      let a = counted-thread v.node t.0 o r.thread r.there in
+      let f = thread-is (executed t.0 v).node t.0 (record r.thread { regs = o.regs; does = does_after o.stop; back = false }) a in
+      record {
+        thread = record r.thread { regs = o.regs; does = does_after o.stop; back = false };
+        there = a;
+        ready = ready-is (does_after o.stop) (ap (λ (z : Thread). ready_to_run z.does) (sym f) ∙ e);
+        living = counted-living v.node t.0 o r.thread r.there r.thread.process ∙ r.living;
+        quiet = counted-deliverable v.node t.0 o r.thread r.there ∙ r.quiet;
+      }
 
   pub run-may : (n : ℕ) (v : Ran) → Runs v.node t.0 → instructions_in_all v.node + n ≤ v.node.limit → steps_may p (replicate (length_of_run n t.0 v) (Steps.Instr t)) (ran_shown v) ≡ true
   run-may zero v r l = refl
@@ -120,8 +129,10 @@ module _ (p : ℕ) (t : Tid) (calls : Map OneCall) (free : ℕ) (born : Option (
     where
       w : Ran
       w = executed t.0 v
+
       more : instructions_in_all w.node + n ≤ w.node.limit
       more = let c = counted-more v.node t.0 (instr (thread_of v.node t.0).regs v.memory) r.thread r.there r.living in omega (arith, c, l)
+
       go : (ready_to_run (thread_of w.node t.0).does ≡ true → steps_may p (replicate (length_of_run n t.0 w) (Steps.Instr t)) (ran_shown w) ≡ true) → (b : Bool) → ready_to_run (thread_of w.node t.0).does ≡ b → steps_may p (replicate (cond b (length_of_run n t.0 w) zero) (Steps.Instr t)) (ran_shown w) ≡ true
       go f true e = f e
       go f false e = refl
@@ -134,15 +145,16 @@ module _ (core n p : ℕ) (t : Tid) (h : Here) (m : may_here (Run core t n) h �
   pub run-shown : ran_shown p t (each (shown_call h.side) h.side.lwk.callers) (length h.free) (shown_born h.frames h.born) (run_for n t.0 begins) ≡ shown_here (run t.0 n h)
   unfolding run
   run-shown =
-    let a = sym (shown-back h.side.lwk.table h.frames (run_for n t.0 begins).memory apart (run_for-rights n t.0 begins)) in
-    rw none (λ i. record { own = record { memory = a i; calls = each (shown_call h.side) h.side.lwk.callers }; node = (run_for n t.0 begins).node; free = length h.free; born = None })
+      let a = sym (shown-back h.side.lwk.table h.frames (run_for n t.0 begins).memory apart (run_for-rights n t.0 begins)) in
+      rw none (λ i. record { own = record { memory = a i; calls = each (shown_call h.side) h.side.lwk.callers }; node = (run_for n t.0 begins).node; free = length h.free; born = None })
 
   pub simulated_run : Simulated (Run core t n) p h
   simulated_run =
-    let x = may-run core t.0 n h m in
-    record {
-      may_happen = run-may p t (each (shown_call h.side) h.side.lwk.callers) (length h.free) (shown_born h.frames h.born) n begins x.runs (left x.some x.left);
-      leads = run-after p t (each (shown_call h.side) h.side.lwk.callers) (length h.free) (shown_born h.frames h.born) n begins ∙ run-shown }
+      let x = may-run core t.0 n h m in
+      record {
+        may_happen = run-may p t (each (shown_call h.side) h.side.lwk.callers) (length h.free) (shown_born h.frames h.born) n begins x.runs (left x.some x.left);
+        leads = run-after p t (each (shown_call h.side) h.side.lwk.callers) (length h.free) (shown_born h.frames h.born) n begins ∙ run-shown;
+      }
     where
       left : 1 ≤ n → n ≤ left_of_limit h.node → instructions_in_all h.node + n ≤ h.node.limit
       left s l = omega (arith, s, l)

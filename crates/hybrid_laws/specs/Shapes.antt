@@ -46,6 +46,7 @@ put_byte-rights m a b i = ap rights_in (at-change m (a / 4096) (page_with a b) i
     mapped : (o : Option Page) → rights_in (option_map (page_with a b) o) ≡ rights_in o
     mapped None = refl
     mapped (Some x) = refl
+
     go : (c : Bool) → (i == a / 4096) ≡ c → rights_in (cond c (option_map (page_with a b) (at m (a / 4096))) (at m i)) ≡ rights_in (at m i)
     go true e = let g : i ≡ a / 4096 = grind (arith, nat_tests, e) in rw g (mapped (at m (a / 4096)))
     go false e = refl
@@ -72,7 +73,7 @@ store-rights r (Some l) old new h = same-rights old
 do_s-rights : (op : Op) (a b : ℕ) (imm : ℤ) (r : Regs) (m : Memory) → SameRights m (do_s op a b imm r m).memory
 unfolding do_s
 do_s-rights op a b imm r m = store-rights r (first_lack m WriteAccess (add_of (reg r a) (wide_of imm)) (store_size op)) m (put_number m (add_of (reg r a) (wide_of imm)) (store_size op) (reg r b))
-  (put_number-rights (store_size op) m (add_of (reg r a) (wide_of imm)) (reg r b))
+    (put_number-rights (store_size op) m (add_of (reg r a) (wide_of imm)) (reg r b))
 
 if-rights : (b : Bool) (m : Memory) (x y : Outcome) → SameRights m x.memory → SameRights m y.memory → SameRights m (if b then x else y).memory
 if-rights true m x y k l = k
@@ -81,13 +82,13 @@ if-rights false m x y k l = l
 do_am-rights : (i : AmIns) (r : Regs) (m : Memory) → SameRights m (do_am i r m).memory
 unfolding do_am
 do_am-rights i r m =
-  let addr = reg r i.rs1 % 2 ^ 64 in
-  let fault = outcome r m (StopFault (record { page = addr / 4096; access = WriteAccess })) in
-  if-rights (is_atomic i.op) m (do_atomic i r m) (outcome (do_arith i r) m On)
+    let addr = reg r i.rs1 % 2 ^ 64 in
+    let fault = outcome r m (StopFault (record { page = addr / 4096; access = WriteAccess })) in
+    if-rights (is_atomic i.op) m (do_atomic i r m) (outcome (do_arith i r) m On)
     (if-rights (addr % am_size i.op == 0) m (if lacks m ReadAccess (addr / 4096) || lacks m WriteAccess (addr / 4096) then fault else do_atomic_at i addr r m) (outcome r m Misaligned)
-      (if-rights (lacks m ReadAccess (addr / 4096) || lacks m WriteAccess (addr / 4096)) m fault (do_atomic_at i addr r m) (same-rights m)
-        (put_number-rights (am_size i.op) m addr (am_result i.op (number_at m addr (am_size i.op)) (reg r i.rs2))))
-      (same-rights m))
+    (if-rights (lacks m ReadAccess (addr / 4096) || lacks m WriteAccess (addr / 4096)) m fault (do_atomic_at i addr r m) (same-rights m)
+    (put_number-rights (am_size i.op) m addr (am_result i.op (number_at m addr (am_size i.op)) (reg r i.rs2))))
+    (same-rights m))
     (same-rights m)
 
 execute-rights : (form : Form) (r : Regs) (m : Memory) → SameRights m (execute form r m).memory
@@ -120,6 +121,7 @@ run_for-rights (suc n) t v = rights-then v.memory w.memory (cond (ready_to_run (
   where
     w : Ran
     w = executed t v
+
     go : (b : Bool) → SameRights w.memory (run_for n t w).memory → SameRights w.memory (cond b (run_for n t w) w).memory
     go true k = k
     go false k = same-rights w.memory
@@ -128,21 +130,24 @@ run_for-rights (suc n) t v = rights-then v.memory w.memory (cond (ready_to_run (
 pub shape-shown : (table : Map Row) (frames : Map (List ℕ)) → SameShape table (shown_memory table frames)
 shape-shown table frames = record {
   absent = λ i e. at-collect (λ k v. Some (shown_row frames v)) table i ∙ ap (λ o. and_then o (λ v. Some (shown_row frames v))) e;
-  present = λ i r e. (shown_row frames r, at-collect (λ k v. Some (shown_row frames v)) table i ∙ ap (λ o. and_then o (λ v. Some (shown_row frames v))) e, refl) }
+  present = λ i r e. (shown_row frames r, at-collect (λ k v. Some (shown_row frames v)) table i ∙ ap (λ o. and_then o (λ v. Some (shown_row frames v))) e, refl);
+}
 
 pub shape-rights : (table : Map Row) (m n : Memory) → SameRights m n → SameShape table m → SameShape table n
 shape-rights table m n same h = record {
   absent = λ i e. none i (at n i) (same i ∙ ap rights_in (h.absent i e));
-  present = λ i r e. let y = h.present i r e in some r (at n i) (same i ∙ ap rights_in y.1 ∙ ap Some y.2) }
+  present = λ i r e. let y = h.present i r e in some r (at n i) (same i ∙ ap rights_in y.1 ∙ ap Some y.2);
+}
   where
     none : (i : ℕ) (o : Option Page) → rights_in o ≡ None → o ≡ None
     none i None e = refl
     none i (Some x) e = absurd (grind (arith, e))
+
     some : (r : Row) (o : Option Page) → rights_in o ≡ Some r.1 → (y : Page) × (o ≡ Some y) × (y.rights ≡ r.1)
     some r None e = absurd (grind (arith, e))
     some r (Some x) e = (x, refl, (let k : x.rights ≡ r.1 = cc in k))
 
 -- what is written back is what is shown
 pub shown-back : (table : Map Row) (frames : Map (List ℕ)) (m : Memory) → ((i j : ℕ) (r t : Row) → at table i ≡ Some r → at table j ≡ Some t → r.0.0 ≡ t.0.0 → i ≡ j)
-  → SameRights (shown_memory table frames) m → shown_memory table (written_back table m frames) ≡ m
+    → SameRights (shown_memory table frames) m → shown_memory table (written_back table m frames) ≡ m
 shown-back table frames m apart same = shown_written table m apart frames (shape-rights table (shown_memory table frames) m same (shape-shown table frames))

@@ -44,7 +44,8 @@ pub stays-then : (a b c : Node) → Stays a b → Stays b c → Stays a c
 stays-then a b c f g = record {
   rows = λ u z e. (let y = g.rows u z e in let x = f.rows u y.0 y.1 in (x.0, x.1, y.2 ∙ x.2, y.3 ∙ x.3));
   processes = λ q. g.processes q ∙ f.processes q;
-  next = g.next ∙ f.next }
+  next = g.next ∙ f.next;
+}
 
 stand-in : Option (ℕ × ℕ × ℕ × Bool) → Option (ℕ × ℕ × Bool)
 stand-in None = None
@@ -53,9 +54,10 @@ stand-in (Some x) = Some (x.0, x.1, x.3)
 pub goes-stays : (a b : Node) → Goes a b → Stays a b
 unfolding stand-in
 goes-stays a b g = record {
-    rows = λ u y e. (let w = g.rows u y e in (w.0, w.1, w.2, w.3));
-    processes = λ q. stand (at b.processes q) ∙ ap stand-in (g.processes q) ∙ sym (stand (at a.processes q));
-    next = g.next }
+  rows = λ u y e. (let w = g.rows u y e in (w.0, w.1, w.2, w.3));
+  processes = λ q. stand (at b.processes q) ∙ ap stand-in (g.processes q) ∙ sym (stand (at a.processes q));
+  next = g.next;
+}
   where
     stand : (o : Option Process) → standing o ≡ stand-in (lasting o)
     stand None = refl
@@ -99,11 +101,11 @@ module _ (a b : Node) (g : Stays a b) where
       go : (o : Option Process) → at a.processes q ≡ o → standing o ≡ standing (Some y) → HeapHolds y
       go None f k = absurd (grind (arith, k))
       go (Some x) f k =
-        let j : (x.heap_base, x.program_break, has_ended x.life) ≡ (y.heap_base, y.program_break, has_ended y.life) = cc in
-        let k = h q x f in
-        let base = ap (λ (z : ℕ × ℕ × Bool). z.0) j in
-        let top = ap (λ (z : ℕ × ℕ × Bool). z.1) j in
-        record { aligned = ap (λ (n : ℕ). n % page_size) (sym base) ∙ k.aligned; below = (let l = k.below in omega (arith, l, base, top)) }
+          let j : (x.heap_base, x.program_break, has_ended x.life) ≡ (y.heap_base, y.program_break, has_ended y.life) = cc in
+          let k = h q x f in
+          let base = ap (λ (z : ℕ × ℕ × Bool). z.0) j in
+          let top = ap (λ (z : ℕ × ℕ × Bool). z.1) j in
+          record { aligned = ap (λ (n : ℕ). n % page_size) (sym base) ∙ k.aligned; below = (let l = k.below in omega (arith, l, base, top)) }
 
 module _ (a b : Node) (g : Goes a b) where
   pub same-instructions : instructions_in_all b ≡ instructions_in_all a
@@ -124,6 +126,7 @@ stopped-total m = go (entries m)
     step : (b : Bool) (x : Thread) (xs : List Thread) (n : ℕ) → length xs ≡ n → length (cond b (x ∷ xs) xs) ≡ as_number b + n
     step true x xs n e = omega (arith, e)
     step false x xs n e = omega (arith, e)
+
     go : (es : List (ℕ × Thread)) → length (filter (λ (x : Thread). is_stopped x.does) (map (λ (e : ℕ × Thread). e.1) es)) ≡ sum_by (λ (e : ℕ × Thread). stops e.1) es
     go [] = refl
     go (e ∷ es) = step (is_stopped e.1.does) e.1 (filter (λ (x : Thread). is_stopped x.does) (map (λ (y : ℕ × Thread). y.1) es)) (sum_by (λ (y : ℕ × Thread). stops y.1) es) (go es) ∙ sym (sum_by-cons (λ (y : ℕ × Thread). stops y.1) e es)
@@ -165,7 +168,8 @@ sleep-once node s u = let a = counts-sleep u node.sleepers in let b = s.once u i
 pub sleeping-of : (node : Node) → SleepersAre node → SleepOnce node → Sleeping node
 sleeping-of node s o = record {
   asleep = got-each (SleeperIs node) node.sleepers s;
-  once = λ u. (let a = counts-sleep u node.sleepers in let b = o u in omega (arith, a, b)) }
+  once = λ u. (let a = counts-sleep u node.sleepers in let b = o u in omega (arith, a, b));
+}
 
 -- a thread that is not Asleep sleeps nowhere
 pub is-awake : (node : Node) (t : ℕ) (x : Thread) → at node.threads t ≡ Some x → is_asleep x.does ≡ false → Sleeping node → IsAwake t node
@@ -174,10 +178,10 @@ is-awake node t x there n s = each-got (λ (y : Sleeper). (y.thread == t) ≡ fa
     go : (y : Sleeper) → SleeperIs node y → (b : Bool) → (y.thread == t) ≡ b → b ≡ false
     go y h false e = refl
     go y h true e =
-      let g : y.thread ≡ t = grind (arith, nat_tests, e) in
-      let o = sym h.1 ∙ ap (at node.threads) g ∙ there in
-      let z : h.0 ≡ x = cc in
-      absurd (let k = sym (ap is_asleep h.2) ∙ ap (λ (w : Thread). is_asleep w.does) z ∙ n in grind (arith, k))
+        let g : y.thread ≡ t = grind (arith, nat_tests, e) in
+        let o = sym h.1 ∙ ap (at node.threads) g ∙ there in
+        let z : h.0 ≡ x = cc in
+        absurd (let k = sym (ap is_asleep h.2) ∙ ap (λ (w : Thread). is_asleep w.does) z ∙ n in grind (arith, k))
 
 -- ---- together
 pub stays-sound : (a b : Node) → Stays a b → Sound a → Sleeping b → Sound b
@@ -188,8 +192,10 @@ stays-sound a b g s sleep = record {
   sleeping = sleep;
   places = record {
     below = λ t y e. (let w = g.rows t y e in let l = s.places.below t w.0 w.1 in let p = w.3 in omega (arith, l, p));
-    apart = λ t u x y e f p q. (let w = g.rows t x e in let v = g.rows u y f in s.places.apart t u w.0 v.0 w.1 v.1 (sym w.2 ∙ p ∙ v.2) (sym w.3 ∙ q ∙ v.3)) };
-  heaps = heap-stays a b g s.heaps }
+    apart = λ t u x y e f p q. (let w = g.rows t x e in let v = g.rows u y f in s.places.apart t u w.0 v.0 w.1 v.1 (sym w.2 ∙ p ∙ v.2) (sym w.3 ∙ q ∙ v.3));
+  };
+  heaps = heap-stays a b g s.heaps;
+}
   where
     below : (q : ℕ) (y : Process) → at b.processes q ≡ Some y → (o : Option Process) → at a.processes q ≡ o → q < b.next_number
     below q y e (Some x) f = let l = s.processes_below q x f in let n = g.next in omega (arith, l, n)

@@ -36,6 +36,7 @@ module _ {V : Type 0} (f : ℕ × V → ℕ) where
       equal-or : (x : Bool) → is_lt (cond x Equal Greater) ≡ true → ⊥
       equal-or true k = grind (arith, k)
       equal-or false k = grind (arith, k)
+
       go : (x : Bool) → nat_lt a b ≡ x → is_lt (cond x Less (cond (a == b) Equal Greater)) ≡ true → a < b
       go true f k = grind (arith, nat_tests, f)
       go false f k = absurd (equal-or (a == b) k)
@@ -44,9 +45,9 @@ module _ {V : Type 0} (f : ℕ × V → ℕ) where
   pub none-below : (k x : ℕ) (es : List (ℕ × V)) → k ≤ x → fin.below_all nat_cmp x es ≡ true → fin.find nat_cmp k es ≡ None
   none-below k x [] l e = refl
   none-below k x (y ∷ es) l e =
-    let a = both (is_lt (nat_cmp x y.0)) (fin.below_all nat_cmp x es) e in
-    let b = less-apart x y.0 a.0 in
-    ap (λ c. cond c (Some y.1) (fin.find nat_cmp k es)) (unsigned_tied k y.0 ∙ differ k y.0 (omega (arith, l, b))) ∙ none-below k x es l a.1
+      let a = both (is_lt (nat_cmp x y.0)) (fin.below_all nat_cmp x es) e in
+      let b = less-apart x y.0 a.0 in
+      ap (λ c. cond c (Some y.1) (fin.find nat_cmp k es)) (unsigned_tied k y.0 ∙ differ k y.0 (omega (arith, l, b))) ∙ none-below k x es l a.1
     where
       differ : (k n : ℕ) → k < n → (k == n) ≡ false
       differ k n h = grind (arith, nat_tests, h)
@@ -57,31 +58,33 @@ module _ {V : Type 0} (f : ℕ × V → ℕ) where
     where
       a : (fin.below_all nat_cmp e.0 es ≡ true) × (fin.is_sorted nat_cmp es ≡ true)
       a = both (fin.below_all nat_cmp e.0 es) (fin.is_sorted nat_cmp es) s
+
       tied : fin.find nat_cmp k (e ∷ es) ≡ cond (k == e.0) (Some e.1) (fin.find nat_cmp k es)
       tied = ap (λ c. cond c (Some e.1) (fin.find nat_cmp k es)) (unsigned_tied k e.0)
+
       go : (b : Bool) → nat_lt k e.0 ≡ b → (d : Bool) → (k == e.0) ≡ d → sum_of (fin.put nat_cmp k v es) + counted_at f k (fin.find nat_cmp k es) ≡ sum_of es + f (k, v)
-         → sum_of (fin.by_order (cond b Less (cond d Equal Greater)) ((k, v) ∷ e ∷ es) ((e.0, v) ∷ es) (e ∷ fin.put nat_cmp k v es)) + counted_at f k (fin.find nat_cmp k (e ∷ es)) ≡ sum_of (e ∷ es) + f (k, v)
+          → sum_of (fin.by_order (cond b Less (cond d Equal Greater)) ((k, v) ∷ e ∷ es) ((e.0, v) ∷ es) (e ∷ fin.put nat_cmp k v es)) + counted_at f k (fin.find nat_cmp k (e ∷ es)) ≡ sum_of (e ∷ es) + f (k, v)
       go true l d q i =
-        let n = none-below k e.0 es (grind (arith, nat_tests, l)) a.0 in
-        let m : (k == e.0) ≡ false = grind (arith, nat_tests, l) in
-        let z = ap (counted_at f k) (tied ∙ ap (λ c. cond c (Some e.1) (fin.find nat_cmp k es)) m ∙ n) in
-        omega (arith, sum-cons (k, v) (e ∷ es), z)
+          let n = none-below k e.0 es (grind (arith, nat_tests, l)) a.0 in
+          let m : (k == e.0) ≡ false = grind (arith, nat_tests, l) in
+          let z = ap (counted_at f k) (tied ∙ ap (λ c. cond c (Some e.1) (fin.find nat_cmp k es)) m ∙ n) in
+          omega (arith, sum-cons (k, v) (e ∷ es), z)
       go false l true q i =
-        let z = ap (counted_at f k) (tied ∙ ap (λ c. cond c (Some e.1) (fin.find nat_cmp k es)) q) in
-        let g : e.0 ≡ k = (let h : k ≡ e.0 = grind (arith, nat_tests, q) in sym h) in
-        let y = ap (λ (n : ℕ). f (n, v)) g in
-        let y' = ap (λ (n : ℕ). f (n, e.1)) g in
-        omega (arith, sum-cons (e.0, v) es, sum-cons e es, z, y, y')
+          let z = ap (counted_at f k) (tied ∙ ap (λ c. cond c (Some e.1) (fin.find nat_cmp k es)) q) in
+          let g : e.0 ≡ k = (let h : k ≡ e.0 = grind (arith, nat_tests, q) in sym h) in
+          let y = ap (λ (n : ℕ). f (n, v)) g in
+          let y' = ap (λ (n : ℕ). f (n, e.1)) g in
+          omega (arith, sum-cons (e.0, v) es, sum-cons e es, z, y, y')
       go false l false q i =
-        let z = ap (counted_at f k) (tied ∙ ap (λ c. cond c (Some e.1) (fin.find nat_cmp k es)) q) in
-        omega (arith, sum-cons e (fin.put nat_cmp k v es), sum-cons e es, z, i)
+          let z = ap (counted_at f k) (tied ∙ ap (λ c. cond c (Some e.1) (fin.find nat_cmp k es)) q) in
+          omega (arith, sum-cons e (fin.put nat_cmp k v es), sum-cons e es, z, i)
 
   pub total-put-by : (m : Map V) (k : ℕ) (v : V) → sum_of (entries (put m k v)) + counted_at f k (at m k) ≡ sum_of (entries m) + f (k, v)
   total-put-by m k v =
-    let s = sum-put k v (entries m) (sorted-true m) in
-    let a = ap sum_of (finmap.entries-insert nat_cmp_total m k v) in
-    let b = ap (counted_at f k) (finmap.get-entries m k) in
-    omega (arith, s, a, b)
+      let s = sum-put k v (entries m) (sorted-true m) in
+      let a = ap sum_of (finmap.entries-insert nat_cmp_total m k v) in
+      let b = ap (counted_at f k) (finmap.get-entries m k) in
+      omega (arith, s, a, b)
 
   -- a row cut
   pub total-cut-by : (m : Map V) (k : ℕ) → sum_of (entries (cut m k)) + counted_at f k (at m k) ≡ sum_of (entries m)
@@ -89,25 +92,28 @@ module _ {V : Type 0} (f : ℕ × V → ℕ) where
     where
       here : at (cut m k) k ≡ None
       here = at-cut m k k ∙ (let e : (k == k) ≡ true = grind (arith, nat_tests) in rw e refl)
+
       absent : at m k ≡ None → cut m k ≡ m
       absent e = same_rows (cut m k) m (λ j. at-cut m k j ∙ row j (j == k) refl)
         where
           row : (j : ℕ) (b : Bool) → (j == k) ≡ b → cond b None (at m j) ≡ at m j
           row j true f = let g : j ≡ k = grind (arith, nat_tests, f) in sym (ap (at m) g ∙ e)
           row j false f = refl
+
       back : (v : V) → at m k ≡ Some v → put (cut m k) k v ≡ m
       back v e = same_rows (put (cut m k) k v) m (λ j. at-put (cut m k) k v j ∙ row j (j == k) refl)
         where
           row : (j : ℕ) (b : Bool) → (j == k) ≡ b → cond b (Some v) (at (cut m k) j) ≡ at m j
           row j true f = let g : j ≡ k = grind (arith, nat_tests, f) in sym (ap (at m) g ∙ e)
           row j false f = at-cut m k j ∙ ap (λ b. cond b None (at m j)) f
+
       go : (o : Option V) → at m k ≡ o → sum_of (entries (cut m k)) + counted_at f k o ≡ sum_of (entries m)
       go None e = let a = ap (λ (n : Map V). sum_of (entries n)) (absent e) in omega (arith, a)
       go (Some v) e =
-        let a = ap (λ (n : Map V). sum_of (entries n)) (back v e) in
-        let b = total-put-by (cut m k) k v in
-        let c = ap (counted_at f k) here in
-        omega (arith, a, b, c)
+          let a = ap (λ (n : Map V). sum_of (entries n)) (back v e) in
+          let b = total-put-by (cut m k) k v in
+          let c = ap (counted_at f k) here in
+          omega (arith, a, b, c)
 
 module _ {V : Type 0} (f : V → ℕ) where
   at-value : (k : ℕ) (o : Option V) → counted_at (λ (e : ℕ × V). f e.1) k o ≡ counted_in f o
@@ -133,23 +139,25 @@ module _ {V : Type 0} (f : V → ℕ) where
     where
       a : (fin.below_all nat_cmp e.0 es ≡ true) × (fin.is_sorted nat_cmp es ≡ true)
       a = both (fin.below_all nat_cmp e.0 es) (fin.is_sorted nat_cmp es) s
+
       none-own : fin.find nat_cmp e.0 es ≡ None
       none-own = none-below (λ (x : ℕ × V). 0) e.0 e.0 es (omega arith) a.0
+
       later : (k : ℕ) (v : V) → fin.find nat_cmp k es ≡ Some v → f v ≤ counted_in f (at (cut m e.0) k)
       later k v g = go (k == e.0) refl
         where
           go : (b : Bool) → (k == e.0) ≡ b → f v ≤ counted_in f (at (cut m e.0) k)
           go true z = absurd (let w : k ≡ e.0 = grind (arith, nat_tests, z) in let n = sym none-own ∙ ap (λ (j : ℕ). fin.find nat_cmp j es) (sym w) ∙ g in grind (arith, n))
           go false z =
-            let i = h k v (ap (λ b. cond b (Some e.1) (fin.find nat_cmp k es)) (unsigned_tied k e.0 ∙ z) ∙ g) in
-            let j = ap (counted_in f) (at-cut m e.0 k ∙ ap (λ b. cond b None (at m k)) z) in
-            omega (arith, i, j)
+              let i = h k v (ap (λ b. cond b (Some e.1) (fin.find nat_cmp k es)) (unsigned_tied k e.0 ∙ z) ∙ g) in
+              let j = ap (counted_in f) (at-cut m e.0 k ∙ ap (λ b. cond b None (at m k)) z) in
+              omega (arith, i, j)
 
   pub total-le : (m n : Map V) → ((k : ℕ) → counted_in f (at m k) ≤ counted_in f (at n k)) → total f m ≤ total f n
   total-le m n h = le-entries (entries m) n (sorted-true m) (λ k v e. (let a = h k in let b = ap (counted_in f) (finmap.get-entries m k ∙ e) in omega (arith, a, b)))
 
   pub total-same : (m n : Map V) → ((k : ℕ) → counted_in f (at m k) ≡ counted_in f (at n k)) → total f m ≡ total f n
   total-same m n h =
-    let a = total-le m n (λ k. (let e = h k in omega (arith, e))) in
-    let b = total-le n m (λ k. (let e = h k in omega (arith, e))) in
-    omega (arith, a, b)
+      let a = total-le m n (λ k. (let e = h k in omega (arith, e))) in
+      let b = total-le n m (λ k. (let e = h k in omega (arith, e))) in
+      omega (arith, a, b)

@@ -60,10 +60,10 @@ living-made node p e = go (at node.processes p) refl e
 -- the one free thread is not pinned
 pub idle-one : (p t : ℕ) (node : Node) (x : Thread) → IsThread node t x → is_pinned x.does ≡ false → (u : ℕ) (y : Thread) → (u == t) ≡ true → at node.threads u ≡ Some y → y.process ≡ p → is_pinned y.does ≡ false
 idle-one p t node x there free u y e f own =
-  let g : u ≡ t = grind (arith, nat_tests, e) in
-  let o = sym there ∙ ap (at node.threads) (sym g) ∙ f in
-  let k : x ≡ y = cc in
-  ap (λ (z : Thread). is_pinned z.does) (sym k) ∙ free
+    let g : u ≡ t = grind (arith, nat_tests, e) in
+    let o = sym there ∙ ap (at node.threads) (sym g) ∙ f in
+    let k : x ≡ y = cc in
+    ap (λ (z : Thread). is_pinned z.does) (sym k) ∙ free
 
 -- ---- a thread or a process changed
 pub thread-changed : (node : Node) (t : ℕ) (f : Thread → Thread) (x : Thread) → IsThread node t x → IsThread (change_thread t f node) t (f x)
@@ -97,22 +97,22 @@ module _ (node : Node) (t : ℕ) (o : Outcome) (x : Thread) (there : IsThread no
 
   pub counted-deliverable : is_deliverable (counted t o node) t ≡ is_deliverable node t
   counted-deliverable =
-    let a = counted-thread in
-    let p = process-changed (λ y. y.pending) (change_thread t moved node) (thread_of node t).process x.process (λ (y : Process). record y { instructions = y.instructions + 1 }) (λ y. refl) in
-    ap (λ (y : Thread). is_some (next_of_sets y.pending (process_of (counted t o node) y.process).pending y.mask)) (thread-is (counted t o node) t (moved x) a)
-    ∙ ap (λ s. is_some (next_of_sets x.pending s x.mask)) p
-    ∙ sym (ap (λ (y : Thread). is_some (next_of_sets y.pending (process_of node y.process).pending y.mask)) (thread-is node t x there))
+      let a = counted-thread in
+      let p = process-changed (λ y. y.pending) (change_thread t moved node) (thread_of node t).process x.process (λ (y : Process). record y { instructions = y.instructions + 1 }) (λ y. refl) in
+      ap (λ (y : Thread). is_some (next_of_sets y.pending (process_of (counted t o node) y.process).pending y.mask)) (thread-is (counted t o node) t (moved x) a)
+      ∙ ap (λ s. is_some (next_of_sets x.pending s x.mask)) p
+      ∙ sym (ap (λ (y : Thread). is_some (next_of_sets y.pending (process_of node y.process).pending y.mask)) (thread-is node t x there))
 
   pub counted-more : is_living node x.process ≡ true → instructions_in_all (counted t o node) ≡ instructions_in_all node + 1
   counted-more living =
-    let y = living-made node x.process living in
-    let e = thread-is node t x there in
-    let f = ap (λ (z : Thread). z.process) e in
-    let c : change node.processes (thread_of node t).process (λ (z : Process). record z { instructions = z.instructions + 1 }) ≡ put node.processes x.process (record y.0 { instructions = y.0.instructions + 1 })
-        = ap (λ q. change node.processes q (λ (z : Process). record z { instructions = z.instructions + 1 })) f ∙ ap (change_row node.processes x.process (λ (z : Process). record z { instructions = z.instructions + 1 })) y.1 in
-    let s = total-put (λ (z : Process). z.instructions) node.processes x.process (record y.0 { instructions = y.0.instructions + 1 }) in
-    let b = ap (counted_in (λ (z : Process). z.instructions)) y.1 in
-    ap (total (λ (z : Process). z.instructions)) c ∙ omega (arith, s, b)
+      let y = living-made node x.process living in
+      let e = thread-is node t x there in
+      let f = ap (λ (z : Thread). z.process) e in
+      let c : change node.processes (thread_of node t).process (λ (z : Process). record z { instructions = z.instructions + 1 }) ≡ put node.processes x.process (record y.0 { instructions = y.0.instructions + 1 })
+      = ap (λ q. change node.processes q (λ (z : Process). record z { instructions = z.instructions + 1 })) f ∙ ap (change_row node.processes x.process (λ (z : Process). record z { instructions = z.instructions + 1 })) y.1 in
+      let s = total-put (λ (z : Process). z.instructions) node.processes x.process (record y.0 { instructions = y.0.instructions + 1 }) in
+      let b = ap (counted_in (λ (z : Process). z.instructions)) y.1 in
+      ap (total (λ (z : Process). z.instructions)) c ∙ omega (arith, s, b)
 
 -- ---- whether the thread is Called after a change
 abbrev pub called_in : Option Thread → Bool
@@ -153,9 +153,11 @@ returned-not t a node = go (is_living node (thread_of node t).process) (is_error
   where
     b : Node
     b = answered t a node
+
     told : (c : Bool) → called_in (at (cond c b (change_thread t (λ (x : Thread). record x { pending = with_signal 13 x.pending }) b)).threads t) ≡ false
     told true = answered-not t a node
     told false = called-stays b t (λ x. record x { pending = with_signal 13 x.pending }) (λ x. refl) ∙ answered-not t a node
+
     go : (c d e : Bool) → called_in (at (cond c (cond d (sent_back t node) (cond e (generate_for_thread t 13 b) b)) (without_thread t node)).threads t) ≡ false
     go true true e = called-changed node t (λ x. record x { regs = set_pc (x.regs.pc + (2 ^ 64 - 4)) x.regs; back = true; does = Ready }) (λ x. refl)
     go true false true = told (ignores (process_of b (thread_of b t).process) 13)

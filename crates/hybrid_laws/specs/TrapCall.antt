@@ -32,10 +32,10 @@ owned-others process process' heap threads threads' p t x there no-change others
   where
     differ : u ≢ t
     differ e =
-      let o = sym there ∙ ap threads (sym e) ∙ h.there in
-      let k : x ≡ h.thread = cc in
-      let n = sym no-change ∙ ap (λ (z : Thread). change_in z.does) k ∙ ap change_in h.does in
-      grind (arith, n)
+        let o = sym there ∙ ap threads (sym e) ∙ h.there in
+        let k : x ≡ h.thread = cc in
+        let n = sym no-change ∙ ap (λ (z : Thread). change_in z.does) k ∙ ap change_in h.does in
+        grind (arith, n)
 
 interrupts-none : (q : ℕ) (m : Msg) → IsGiven q m → interrupts_of q m ≡ 0
 interrupts-none q (Interrupt n place) h = grind (arith, nat_tests, h)
@@ -65,9 +65,9 @@ given-one rows threads q (Fault v i a) h = tt
 
 interrupt-more : (rows : Reads (ReqState × Call)) (threads threads' : Reads Thread) (q : ℕ) (c : Call) → ((k u : ℕ) → place_in k (threads' u) ≡ place_in k (threads u)) → (m : Msg) → InterruptIs q rows threads m → InterruptIs (q + 1) (with_at rows q (Some (Posted, c))) threads' m
 interrupt-more rows threads threads' q c stays (Interrupt n place) h =
-  let l = h.0 in
-  let d : (n.0 == q) ≡ false = grind (arith, nat_tests, l) in
-  (omega (arith, l), h.1, rw d (λ u. stays place (tid_in (rows n.0)) ∙ h.2 u))
+    let l = h.0 in
+    let d : (n.0 == q) ≡ false = grind (arith, nat_tests, l) in
+    (omega (arith, l), h.1, rw d (λ u. stays place (tid_in (rows n.0)) ∙ h.2 u))
 interrupt-more rows threads threads' q c stays (Request z) h = tt
 interrupt-more rows threads threads' q c stays (Clear r) h = tt
 interrupt-more rows threads threads' q c stays (Answer v i n row) h = tt
@@ -85,9 +85,9 @@ asked-more rows q c none Ack h = tt
 asked-more rows q c none (Fault v i a) h = tt
 
 module _ (p : ℕ) (side : Side) (node node' : Node) (worker_count : ℕ) (ring_of : ℕ → ℕ) (h : OfProcess p side node worker_count ring_of) (t : ℕ) (x y : Thread) (there : at node.threads t ≡ Some x) (mine : x.process ≡ p) (no-change : change_in x.does ≡ None) (not-called : is_called x.does ≡ false)
-  (now : at node'.threads t ≡ Some y) (place : y.place ≡ x.place) (mine' : y.process ≡ p) (calls : is_called y.does ≡ true) (others : (u : ℕ) → u ≢ t → at node'.threads u ≡ at node.threads u) (heap : (process_of node' p).heap_base ≡ (process_of node p).heap_base)
-  (apart : (u v : ℕ) (d e : Thread) → at node.threads u ≡ Some d → at node.threads v ≡ Some e → d.process ≡ e.process → d.place ≡ e.place → u ≡ v)
-  (there_is : ring_of t < length side.to_linux) (progress : Progress) where
+    (now : at node'.threads t ≡ Some y) (place : y.place ≡ x.place) (mine' : y.process ≡ p) (calls : is_called y.does ≡ true) (others : (u : ℕ) → u ≢ t → at node'.threads u ≡ at node.threads u) (heap : (process_of node' p).heap_base ≡ (process_of node p).heap_base)
+    (apart : (u v : ℕ) (d e : Thread) → at node.threads u ≡ Some d → at node.threads v ≡ Some e → d.process ≡ e.process → d.place ≡ e.place → u ≡ v)
+    (there_is : ring_of t < length side.to_linux) (progress : Progress) where
   abbrev q : ℕ
   q = side.book.next
 
@@ -116,6 +116,7 @@ module _ (p : ℕ) (side : Side) (node node' : Node) (worker_count : ℕ) (ring_
       go : (b : Bool) (u : ℕ) (d : Thread) → (u == t) ≡ b → at node'.threads u ≡ Some d → d.process ≡ p → is_called d.does ≡ is_some (if b then Some (record { request = q; marked = false }) else at side.lwk.callers u)
       go true u d e f own = let k : u ≡ t = grind (arith, nat_tests, e) in let o = sym f ∙ ap (at node'.threads) k ∙ now in let z : d ≡ y = cc in ap (λ (w : Thread). is_called w.does) z ∙ calls
       go false u d e f own = h.calls.called u d (sym (others u (λ k. grind (arith, nat_tests, e, k))) ∙ f) own
+
       back : (b : Bool) (u : ℕ) (d : Caller) → (u == t) ≡ b → (if b then Some (record { request = q; marked = false }) else at side.lwk.callers u) ≡ Some d → (w : Thread) × (at node'.threads u ≡ Some w) × (w.process ≡ p)
       back true u d e f = let k : u ≡ t = grind (arith, nat_tests, e) in (y, ap (at node'.threads) k ∙ now, mine')
       back false u d e f = let w = h.calls.there u d f in (w.0, others u (λ k. grind (arith, nat_tests, e, k)) ∙ w.1, w.2)
@@ -125,34 +126,37 @@ module _ (p : ℕ) (side : Side) (node node' : Node) (worker_count : ℕ) (ring_
     where
       unknown : is_fetched (state_at (at side.book.rows) q) ≡ false
       unknown = rw fresh refl
+
       none : at side.linux.services q ≡ None
       none = no-none (at side.linux.services q) (ap not (sym (h.served.known q) ∙ unknown))
+
       fetched-of : (b : Bool) (u : ℕ) (d : Caller) → (if b then Some (record { request = q; marked = false }) else at side.lwk.callers u) ≡ Some d → (service_at (at side.linux.services) d.request).interrupted ≡ true → d.marked ≡ true
       fetched-of true u d e f = let k : record { request = q; marked = false } ≡ d = cc in let m : q ≡ d.request = ap (λ (z : Caller). z.request) k in absurd (let f' = rw (sym m, none) at f in grind (arith, f'))
       fetched-of false u d e f = h.marked.fetched u d e f
+
       posted-of : (b : Bool) (u : ℕ) (d : Caller) → (if b then Some (record { request = q; marked = false }) else at side.lwk.callers u) ≡ Some d → sum_rings (interrupts_of d.request) (post (ring_of t) (Request call) side.to_linux) ≤ as_number d.marked
       posted-of true u d e =
-        let k : record { request = q; marked = false } ≡ d = cc in
-        subst (λ (z : Caller). sum_rings (interrupts_of z.request) (post (ring_of t) (Request call) side.to_linux) ≤ as_number z.marked) k
+          let k : record { request = q; marked = false } ≡ d = cc in
+          subst (λ (z : Caller). sum_rings (interrupts_of z.request) (post (ring_of t) (Request call) side.to_linux) ≤ as_number z.marked) k
           (omega (arith, sum-post (interrupts_of q) (ring_of t) (Request call) side.to_linux, none-in-rings q side.to_linux given))
       posted-of false u d e = omega (arith, sum-post (interrupts_of d.request) (ring_of t) (Request call) side.to_linux, h.marked.posted u d e)
 
   pub keeps_begin_call : OfProcess p (begin_call (ring_of t) t progress side) node' worker_count ring_of
   unfolding begin_call
   keeps_begin_call =
-    let a = reads-put side.lwk.callers t (record { request = q; marked = false }) in
-    let b = reads-put side.book.rows q (Posted, call) in
-    record {
-      covered = covered-call side.round (at side.lwk.table) (at side.linux.mirror) (at side.linux.pins) side.lwk.begun side.linux.cleared (ring_of t) call side.to_linux side.to_lwk h.covered;
-      rounded = rounded-call side.round (at side.lwk.table) (at side.linux.mirror) (at side.linux.pins) side.lwk.begun side.linux.cleared (ring_of t) call side.to_linux side.to_lwk h.rounded;
-      owned = owned-others (process_of node p) (process_of node' p) heap (at node.threads) (at node'.threads) p t x there no-change others side.round side.lwk.changing h.owned;
-      served = rw b (served_call worker_count (at side.linux.workers) (at side.book.rows) (at side.linux.services) (at side.linux.pins) side.book.waiting (at side.lwk.noted) side.to_linux side.to_lwk h.served (ring_of t) q call refl fresh);
-      answered = rw (a, b) (answered_call (at side.book.rows) (at side.lwk.callers) q side.to_lwk h.answered t idle call refl);
-      calls = rw a calls-agree;
-      asked = rw b (EachRing-post (RequestIs (with_at (at side.book.rows) q (Some (Posted, call)))) (ring_of t) (Request call) side.to_linux (EachRing-map (RequestIs (at side.book.rows)) (RequestIs (with_at (at side.book.rows) q (Some (Posted, call)))) side.to_linux (asked-more (at side.book.rows) q call fresh) h.asked) (let same : (q == q) ≡ true = grind (arith, nat_tests) in rw same refl));
-      interrupts = rw b (EachRing-post (InterruptIs (q + 1) (with_at (at side.book.rows) q (Some (Posted, call))) (at node'.threads)) (ring_of t) (Request call) side.to_linux
-        (EachRing-map (InterruptIs q (at side.book.rows) (at node.threads)) (InterruptIs (q + 1) (with_at (at side.book.rows) q (Some (Posted, call))) (at node'.threads)) side.to_linux (interrupt-more (at side.book.rows) (at node.threads) (at node'.threads) q call places) h.interrupts) tt);
-      directions = record { to_linux = EachRing-post (λ m. goes_to_linux m ≡ true) (ring_of t) (Request call) side.to_linux h.directions.to_linux refl; to_lwk = h.directions.to_lwk };
-      messages = rw (a, b) (Messages-request p (at side.book.rows) (at node.threads) (at node'.threads) ring_of (at side.lwk.callers) q side.to_lwk h.answered h.calls t x y there mine now place others apart idle call refl refl (ring_of t) side.to_linux refl there_is h.asked given h.messages);
-      marked = rw a marks;
-    }
+      let a = reads-put side.lwk.callers t (record { request = q; marked = false }) in
+      let b = reads-put side.book.rows q (Posted, call) in
+      record {
+        covered = covered-call side.round (at side.lwk.table) (at side.linux.mirror) (at side.linux.pins) side.lwk.begun side.linux.cleared (ring_of t) call side.to_linux side.to_lwk h.covered;
+        rounded = rounded-call side.round (at side.lwk.table) (at side.linux.mirror) (at side.linux.pins) side.lwk.begun side.linux.cleared (ring_of t) call side.to_linux side.to_lwk h.rounded;
+        owned = owned-others (process_of node p) (process_of node' p) heap (at node.threads) (at node'.threads) p t x there no-change others side.round side.lwk.changing h.owned;
+        served = rw b (served_call worker_count (at side.linux.workers) (at side.book.rows) (at side.linux.services) (at side.linux.pins) side.book.waiting (at side.lwk.noted) side.to_linux side.to_lwk h.served (ring_of t) q call refl fresh);
+        answered = rw (a, b) (answered_call (at side.book.rows) (at side.lwk.callers) q side.to_lwk h.answered t idle call refl);
+        calls = rw a calls-agree;
+        asked = rw b (EachRing-post (RequestIs (with_at (at side.book.rows) q (Some (Posted, call)))) (ring_of t) (Request call) side.to_linux (EachRing-map (RequestIs (at side.book.rows)) (RequestIs (with_at (at side.book.rows) q (Some (Posted, call)))) side.to_linux (asked-more (at side.book.rows) q call fresh) h.asked) (let same : (q == q) ≡ true = grind (arith, nat_tests) in rw same refl));
+        interrupts = rw b (EachRing-post (InterruptIs (q + 1) (with_at (at side.book.rows) q (Some (Posted, call))) (at node'.threads)) (ring_of t) (Request call) side.to_linux
+            (EachRing-map (InterruptIs q (at side.book.rows) (at node.threads)) (InterruptIs (q + 1) (with_at (at side.book.rows) q (Some (Posted, call))) (at node'.threads)) side.to_linux (interrupt-more (at side.book.rows) (at node.threads) (at node'.threads) q call places) h.interrupts) tt);
+        directions = record { to_linux = EachRing-post (λ m. goes_to_linux m ≡ true) (ring_of t) (Request call) side.to_linux h.directions.to_linux refl; to_lwk = h.directions.to_lwk };
+        messages = rw (a, b) (Messages-request p (at side.book.rows) (at node.threads) (at node'.threads) ring_of (at side.lwk.callers) q side.to_lwk h.answered h.calls t x y there mine now place others apart idle call refl refl (ring_of t) side.to_linux refl there_is h.asked given h.messages);
+        marked = rw a marks;
+      }

@@ -64,9 +64,9 @@ module _ (p : ℕ) (t : Tid) (h : Here) (m : may_here (Events.Trap t) h ≡ true
   -- the process was made, so it isn't the one that begins
   old : p < h.node.next_number
   old =
-    let a = both (is_some (at h.node.threads t.0) && is_stopped (thread_of h.node t.0).does) (is_living h.node (thread_of h.node t.0).process) m in
-    let y = living-made h.node p (ap (is_living h.node) (sym mine) ∙ a.1) in
-    nodes.made_below p y.0 y.1
+      let a = both (is_some (at h.node.threads t.0) && is_stopped (thread_of h.node t.0).does) (is_living h.node (thread_of h.node t.0).process) m in
+      let y = living-made h.node p (ap (is_living h.node) (sym mine) ∙ a.1) in
+      nodes.made_below p y.0 y.1
 
   pub keeps_trap : (workers : ℕ) → RingsHold h → OfProcess p h.side h.node workers (ring_of h) → OfProcess p (after_here (Events.Trap t) p h).side (after_here (Events.Trap t) p h).node workers (ring_of h)
   unfolding after_trap
@@ -90,18 +90,19 @@ module _ (p : ℕ) (t : Tid) (h : Here) (m : may_here (Events.Trap t) h ≡ true
 
   -- a process that begins has the next number
   pub born_trap : (workers : ℕ) (ring : ℕ → ℕ) → h.born ≡ None → OfProcess h.node.next_number (new_side 0) h.node workers ring → (b : ℕ × Side) → (after_here (Events.Trap t) p h).born ≡ Some b
-    → (b.0 ≡ h.node.next_number) × OfProcess b.0 b.1 (after_here (Events.Trap t) p h).node workers ring
+      → (b.0 ≡ h.node.next_number) × OfProcess b.0 b.1 (after_here (Events.Trap t) p h).node workers ring
   unfolding after_trap
   born_trap workers ring none k b e = go is says e
     where
       unborn : h.born ≡ Some b → ⊥
       unborn f = let n = sym none ∙ f in grind (arith, n)
+
       go : (y : Trapped) → TrappedSays t.0 (length h.free) (view_here h) y → (trapped p t.0 y h).born ≡ Some b → (b.0 ≡ h.node.next_number) × OfProcess b.0 b.1 (trapped p t.0 y h).node workers ring
       go (Done v) s f = absurd (unborn f)
       go (Forks v child stores) s f =
-        let sp = with_stores stores (child_space (memory_here (with_view v h)) (space_here (with_view v h))) in
-        let g : (child, child_side (with_view v h) sp) ≡ b = cc in
-        subst (λ (z : ℕ × Side). (z.0 ≡ h.node.next_number) × OfProcess z.0 z.1 v.node workers ring) g
+          let sp = with_stores stores (child_space (memory_here (with_view v h)) (space_here (with_view v h))) in
+          let g : (child, child_side (with_view v h) sp) ≡ b = cc in
+          subst (λ (z : ℕ × Side). (z.0 ≡ h.node.next_number) × OfProcess z.0 z.1 v.node workers ring) g
           (s.number, born_forks p t.0 h v child stores s workers ring (next-new h.node nodes) (subst (λ (c : ℕ). OfProcess c (new_side 0) h.node workers ring) (sym s.number) k) sp.table)
       go (Begins new progress) s f = absurd (unborn f)
       go (Changes new c) s f = absurd (unborn f)
@@ -114,5 +115,5 @@ module _ (p : ℕ) (t : Tid) (h : Here) (m : may_here (Events.Trap t) h ≡ true
       go (Done v) s = shown-view h v (own-apart tables p (space_here h) frames) none
       go (Forks v child stores) s = shown_forks p t.0 h v child stores s tables frames (λ e. (let n = s.number in let l = old in omega (arith, e, n, l))) none
       go (Begins new progress) s = shown_begins p t.0 h x progress new s.0 workers k s.1
-        (ap (λ (y : Progress). plan y.number y.arguments) s.3 ∙ s.2) (s.3 ∙ ap (λ (y : Progress). starting y.number y.arguments s.1) (sym s.3))
+          (ap (λ (y : Progress). plan y.number y.arguments) s.3 ∙ s.2) (s.3 ∙ ap (λ (y : Progress). starting y.number y.arguments s.1) (sym s.3))
       go (Changes new c) s = shown_changes p t.0 h x own new c s.0 (reg (call_regs t.0 h.node) 17) (arguments_of (call_regs t.0 h.node)) s.1 tables frames none

@@ -30,19 +30,31 @@ pub record NodeSteps (a b : Node) : Type 0 where
 
 pub steps-of : (a b : Node) → Sound a → Goes a b → Sleeping b → NodeSteps a b
 steps-of a b s g sleep =
-  let stays = goes-stays a b g in
-  record {
-    sound = goes-sound a b g s sleep; frames = g.frames; limit = g.limit; files = g.files; instructions = same-instructions a b g;
-    made = same-made a b stays; ended = same-ended a b stays;
-    numbers = (let n = g.next in omega (arith, n));
-    paid = (let n = g.next in let l = stopped-less a b g in omega (arith, n, l)) }
+    let stays = goes-stays a b g in
+    record {
+      sound = goes-sound a b g s sleep;
+      frames = g.frames;
+      limit = g.limit;
+      files = g.files;
+      instructions = same-instructions a b g;
+      made = same-made a b stays;
+      ended = same-ended a b stays;
+      numbers = (let n = g.next in omega (arith, n));
+      paid = (let n = g.next in let l = stopped-less a b g in omega (arith, n, l));
+    }
 
 pub steps-then : (a b c : Node) → NodeSteps a b → NodeSteps b c → NodeSteps a c
 steps-then a b c f g = record {
-  sound = g.sound; frames = g.frames ∙ f.frames; limit = g.limit ∙ f.limit; files = g.files ∙ f.files; instructions = g.instructions ∙ f.instructions;
-  made = λ q. g.made q ∙ f.made q; ended = λ q. g.ended q ∙ f.ended q;
+  sound = g.sound;
+  frames = g.frames ∙ f.frames;
+  limit = g.limit ∙ f.limit;
+  files = g.files ∙ f.files;
+  instructions = g.instructions ∙ f.instructions;
+  made = λ q. g.made q ∙ f.made q;
+  ended = λ q. g.ended q ∙ f.ended q;
   numbers = (let x = f.numbers in let y = g.numbers in omega (arith, x, y));
-  paid = (let x = f.paid in let y = g.paid in omega (arith, x, y)) }
+  paid = (let x = f.paid in let y = g.paid in omega (arith, x, y));
+}
 
 -- ---- a thread that clone makes
 find-bound : (test : ℕ → Bool) (k n : ℕ) → find_or test (count_from k n) (k + n) ≤ k + n
@@ -71,13 +83,14 @@ place-none p n [] e = tt
 place-none p n (x ∷ xs) e = go (x.process == p) refl e (place-none p n xs)
   where
     go : (b : Bool) → (x.process == p) ≡ b → member n (map (λ (y : Thread). y.place) (cond b (x ∷ filter (λ (y : Thread). y.process == p) xs) (filter (λ (y : Thread). y.process == p) xs))) ≡ false
-       → (member n (map (λ (y : Thread). y.place) (filter (λ (y : Thread). y.process == p) xs)) ≡ false → Each (λ (y : Thread). y.process ≡ p → y.place ≡ n → ⊥) xs) → Each (λ (y : Thread). y.process ≡ p → y.place ≡ n → ⊥) (x ∷ xs)
+        → (member n (map (λ (y : Thread). y.place) (filter (λ (y : Thread). y.process == p) xs)) ≡ false → Each (λ (y : Thread). y.process ≡ p → y.place ≡ n → ⊥) xs) → Each (λ (y : Thread). y.process ≡ p → y.place ≡ n → ⊥) (x ∷ xs)
     go false f k i = ((λ g h. grind (arith, nat_tests, f, g)), i k)
     go true f k i = (same (x.place == n) refl k, rest (x.place == n) k)
       where
         same : (b : Bool) → (x.place == n) ≡ b → (b || member n (map (λ (y : Thread). y.place) (filter (λ (y : Thread). y.process == p) xs))) ≡ false → x.process ≡ p → x.place ≡ n → ⊥
         same true f k g h = grind (arith, k)
         same false f k g h = grind (arith, nat_tests, f, h)
+
         rest : (b : Bool) → (b || member n (map (λ (y : Thread). y.place) (filter (λ (y : Thread). y.process == p) xs))) ≡ false → Each (λ (y : Thread). y.process ≡ p → y.place ≡ n → ⊥) xs
         rest true k = absurd (grind (arith, k))
         rest false k = i k
@@ -113,9 +126,9 @@ module _ (a : Node) (s : Sound a) (t : ℕ) (x : Thread) (there : at a.threads t
 
   places-differ : (u : ℕ) (z : Thread) → at a.threads u ≡ Some z → z.process ≡ x.process → z.place ≡ y.place → ⊥
   places-differ u z e p q =
-    let free = lowest-free (map (λ (w : Thread). w.place) (threads_of a x.process)) in
-    let all = place-none x.process (lowest_free_place a x.process) (values a.threads) free in
-    each-at (λ (w : ℕ × Thread). w.1.process ≡ x.process → w.1.place ≡ lowest_free_place a x.process → ⊥) a.threads u z (value-of (λ (w : Thread). w.process ≡ x.process → w.place ≡ lowest_free_place a x.process → ⊥) (entries a.threads) all) e p (q ∙ place)
+      let free = lowest-free (map (λ (w : Thread). w.place) (threads_of a x.process)) in
+      let all = place-none x.process (lowest_free_place a x.process) (values a.threads) free in
+      each-at (λ (w : ℕ × Thread). w.1.process ≡ x.process → w.1.place ≡ lowest_free_place a x.process → ⊥) a.threads u z (value-of (λ (w : Thread). w.process ≡ x.process → w.place ≡ lowest_free_place a x.process → ⊥) (entries a.threads) all) e p (q ∙ place)
 
   pub more-sound : Sound more
   more-sound = record {
@@ -126,30 +139,36 @@ module _ (a : Node) (s : Sound a) (t : ℕ) (x : Thread) (there : at a.threads t
     places = record {
       below = λ u z e. elim (new-or-old u z e) [
         | inl w ↦ (let b = lowest-bound (map (λ (v : Thread). v.place) (threads_of a x.process)) in let l = length-map (λ (v : Thread). v.place) (threads_of a x.process) in let p = ap (λ (v : Thread). v.place) w.1 ∙ place in omega (arith, b, l, p, few))
-        | inr w ↦ s.places.below u z w ];
+        | inr w ↦ s.places.below u z w
+      ];
       apart = λ u v z w e f p q. elim (new-or-old u z e) [
         | inl i ↦ elim (new-or-old v w f) [
           | inl j ↦ i.0 ∙ sym j.0
-          | inr j ↦ absurd (places-differ v w j (sym p ∙ ap (λ (m : Thread). m.process) i.1 ∙ process) (sym q ∙ ap (λ (m : Thread). m.place) i.1)) ]
+          | inr j ↦ absurd (places-differ v w j (sym p ∙ ap (λ (m : Thread). m.process) i.1 ∙ process) (sym q ∙ ap (λ (m : Thread). m.place) i.1))
+        ]
         | inr i ↦ elim (new-or-old v w f) [
           | inl j ↦ absurd (places-differ u z i (p ∙ ap (λ (m : Thread). m.process) j.1 ∙ process) (q ∙ ap (λ (m : Thread). m.place) j.1))
-          | inr j ↦ s.places.apart u v z w i j p q ] ] };
-    heaps = s.heaps }
+          | inr j ↦ s.places.apart u v z w i j p q
+        ]
+      ];
+    };
+    heaps = s.heaps;
+  }
 
   pub more-stops : total stops more.threads ≡ total stops a.threads
   more-stops =
-    let p = total-put stops a.threads n y in
-    let f = ap (counted_in stops) fresh in
-    let z : stops y ≡ 0 = ap as_number not_stopped in
-    omega (arith, p, f, z)
+      let p = total-put stops a.threads n y in
+      let f = ap (counted_in stops) fresh in
+      let z : stops y ≡ 0 = ap as_number not_stopped in
+      omega (arith, p, f, z)
 
 -- a thread that is Stopped no longer: one fewer
 pub stops-fewer : (a : Node) (t : ℕ) (x : Thread) (f : Thread → Thread) → at a.threads t ≡ Some x → is_stopped x.does ≡ true → is_stopped (f x).does ≡ false → total stops (change_thread t f a).threads + 1 ≡ total stops a.threads
 stops-fewer a t x f there was now =
-  let c = ap (change_row a.threads t f) there in
-  let p = total-put stops a.threads t (f x) in
-  let q = ap (counted_in stops) there in
-  let r : stops x ≡ 1 = ap as_number was in
-  let s : stops (f x) ≡ 0 = ap as_number now in
-  let m = ap (total stops) c in
-  omega (arith, p, q, r, s, m)
+    let c = ap (change_row a.threads t f) there in
+    let p = total-put stops a.threads t (f x) in
+    let q = ap (counted_in stops) there in
+    let r : stops x ≡ 1 = ap as_number was in
+    let s : stops (f x) ≡ 0 = ap as_number now in
+    let m = ap (total stops) c in
+    omega (arith, p, q, r, s, m)

@@ -54,9 +54,9 @@ each-got P (x ∷ xs) f = (f 0 x refl, each-got P xs (λ k y e. f (suc k) y e))
 
 pub sleepers-free : (t : ℕ) (node : Node) → Sleeping node → SleepersFree (trap_free t node) node
 sleepers-free t node h = each-got (λ (s : Sleeper). trap_free t node s.thread ≡ true) node.sleepers (λ k s e.
-  let x = h.asleep k s e in
-  let a : is_asleep (thread_of node s.thread).does ≡ true = ap (λ (z : Thread). is_asleep z.does) (thread-is node s.thread x.0 x.1) ∙ ap is_asleep x.2 in
-  or-right (s.thread == t) (is_asleep (thread_of node s.thread).does) a)
+    let x = h.asleep k s e in
+    let a : is_asleep (thread_of node s.thread).does ≡ true = ap (λ (z : Thread). is_asleep z.does) (thread-is node s.thread x.0 x.1) ∙ ap is_asleep x.2 in
+    or-right (s.thread == t) (is_asleep (thread_of node s.thread).does) a)
   where
     or-right : (a b : Bool) → b ≡ true → (a || b) ≡ true
     or-right true b e = refl
@@ -88,15 +88,17 @@ module _ (p : ℕ) (free : ℕ → Bool) where
   module _ (t : ℕ) (e : free t ≡ true) where
     clone-keeps : (flags stack parent_tid tls child_tid : ℕ) (v : View) → at v.node.threads v.node.next_number ≡ None → Keeps p free v.node (clone t flags stack parent_tid tls child_tid v).node
     clone-keeps flags stack parent_tid tls child_tid v none = either-view p free _ _ _ (answers-keeps p free t e (refused EINVAL) v) (either-view p free _ _ _ (answers-keeps p free t e (refused EAGAIN) v)
-      (clones-keeps p free t e flags stack parent_tid tls child_tid v none))
+        (clones-keeps p free t e flags stack parent_tid tls child_tid v none))
 
     forks-keeps : (flags stack parent_tid tls child_tid : ℕ) (v : View) → at v.node.threads v.node.next_number ≡ None → TrappedKeeps v.node (cloned (forks t flags stack parent_tid tls child_tid v))
     forks-keeps flags stack parent_tid tls child_tid v none other = go (has_bit 20 flags) (may_access v.memory Write parent_tid (length (little_endian 4 v.node.next_number)))
       where
         n : ℕ
         n = v.node.next_number
+
         done : Keeps p free v.node (answered t (pos n) (with_child t n flags stack tls child_tid v.node))
         done = then p free (with_child-keeps p free v.node t n flags stack tls child_tid other none) (answered-free p free (with_child t n flags stack tls child_tid v.node) t (pos n) e)
+
         go : (b c : Bool) → Keeps p free v.node (answers t (pos n) (on_node (with_child t n flags stack tls child_tid) (cond b (cond c (store parent_tid (little_endian 4 n) v) v) v))).node
         go true true = done
         go true false = done
@@ -113,30 +115,30 @@ module _ (p : ℕ) (free : ℕ → Bool) where
 
     calls-keeps : (number : ℕ) (a : ℕ → ℕ) (v : View) → SleepersFree free v.node → Keeps p free v.node (one_of_calls t number a v).node
     calls-keeps number a v h =
-      let o = either-view p free {a = v.node} in
-      o _ _ _ (exits-keeps p free t e (exit_code (a 0)) v h)
-      (o _ _ _ (exits_group-keeps p free t e (exit_code (a 0)) v)
-      (o _ _ _ (sets_clear_address-keeps p free t e (a 0) v)
-      (o _ _ _ (futex-keeps p free t e (a 0) (a 1) (a 2) (a 3) v h)
-      (o _ _ _ (sets_robust_list-keeps p free t e (a 1) v)
-      (o _ _ _ (answers-keeps p free t e (pos 0) v)
-      (o _ _ _ (kill-keeps p free t e (int_argument (a 0)) (int_argument (a 1)) v)
-      (o _ _ _ (tgkill-keeps p free t e (int_argument (a 0)) (int_argument (a 1)) (int_argument (a 2)) v)
-      (o _ _ _ (sigaction-keeps p free t e (int_argument (a 0)) (a 1) (a 2) (a 3) v)
-      (o _ _ _ (sigprocmask-keeps p free t e (int_argument (a 0)) (a 1) (a 2) (a 3) v)
-      (o _ _ _ (sigpending-keeps p free t e (a 0) (a 1) v)
-      (o _ _ _ (return-keeps p free t e v)
-      (o _ _ _ (answers-keeps p free t e (pos (thread_of v.node t).process) v)
-      (o _ _ _ (answers-keeps p free t e (pos (parent_number v.node (thread_of v.node t).process)) v)
-      (o _ _ _ (answers-keeps p free t e (pos t) v)
-      (wait4-keeps p free t e (int_argument (a 0)) (a 1) (a 2 % 2 ^ 32) (a 3) v)))))))))))))))
+        let o = either-view p free {a = v.node} in
+        o _ _ _ (exits-keeps p free t e (exit_code (a 0)) v h)
+        (o _ _ _ (exits_group-keeps p free t e (exit_code (a 0)) v)
+        (o _ _ _ (sets_clear_address-keeps p free t e (a 0) v)
+        (o _ _ _ (futex-keeps p free t e (a 0) (a 1) (a 2) (a 3) v h)
+        (o _ _ _ (sets_robust_list-keeps p free t e (a 1) v)
+        (o _ _ _ (answers-keeps p free t e (pos 0) v)
+        (o _ _ _ (kill-keeps p free t e (int_argument (a 0)) (int_argument (a 1)) v)
+        (o _ _ _ (tgkill-keeps p free t e (int_argument (a 0)) (int_argument (a 1)) (int_argument (a 2)) v)
+        (o _ _ _ (sigaction-keeps p free t e (int_argument (a 0)) (a 1) (a 2) (a 3) v)
+        (o _ _ _ (sigprocmask-keeps p free t e (int_argument (a 0)) (a 1) (a 2) (a 3) v)
+        (o _ _ _ (sigpending-keeps p free t e (a 0) (a 1) v)
+        (o _ _ _ (return-keeps p free t e v)
+        (o _ _ _ (answers-keeps p free t e (pos (thread_of v.node t).process) v)
+        (o _ _ _ (answers-keeps p free t e (pos (parent_number v.node (thread_of v.node t).process)) v)
+        (o _ _ _ (answers-keeps p free t e (pos t) v)
+        (wait4-keeps p free t e (int_argument (a 0)) (a 1) (a 2 % 2 ^ 32) (a 3) v)))))))))))))))
 
     local-keeps : (frames number : ℕ) (arguments : List ℕ) (v : View) → SleepersFree free v.node → at v.node.threads v.node.next_number ≡ None → TrappedKeeps v.node (cloned (local_call t frames number arguments v))
     unfolding local_call
     local-keeps frames number arguments v h none = go (number == 220) (clone_or_fork-keeps frames (get_or arguments 0 0) (get_or arguments 1 0) (get_or arguments 2 0) (get_or arguments 3 0) (get_or arguments 4 0) v none) (calls-keeps number (λ k. get_or arguments k 0) v h)
       where
         go : (b : Bool) → TrappedKeeps v.node (cloned (clone_or_fork t frames (get_or arguments 0 0) (get_or arguments 1 0) (get_or arguments 2 0) (get_or arguments 3 0) (get_or arguments 4 0) v)) → Keeps p free v.node (one_of_calls t number (λ k. get_or arguments k 0) v).node
-          → TrappedKeeps v.node (cloned (cond b (clone_or_fork t frames (get_or arguments 0 0) (get_or arguments 1 0) (get_or arguments 2 0) (get_or arguments 3 0) (get_or arguments 4 0) v) (CallDone (one_of_calls t number (λ k. get_or arguments k 0) v))))
+            → TrappedKeeps v.node (cloned (cond b (clone_or_fork t frames (get_or arguments 0 0) (get_or arguments 1 0) (get_or arguments 2 0) (get_or arguments 3 0) (get_or arguments 4 0) v) (CallDone (one_of_calls t number (λ k. get_or arguments k 0) v))))
         go true k l = k
         go false k l = l
 
@@ -170,11 +172,12 @@ module _ (p : ℕ) (free : ℕ → Bool) where
       where
         raise : (stop : Stop) → Keeps p free v.node (raised t (signal_of_stop stop) v.node)
         raise stop = raised-free p free v.node t (signal_of_stop stop) e
+
         go : (o : Option Stop) → TrappedKeeps v.node (trap_of_stop t frames v o)
         go None = same-node p free v.node
         go (Some Ecall) =
-          let r = (thread_of v.node t).regs in
-          trapped-then v.node (past_ecall t v).node (planned t frames r (past_ecall t v) (plan (reg r 17) (arguments_of r))) (past_ecall-keeps p free v.node t)
+            let r = (thread_of v.node t).regs in
+            trapped-then v.node (past_ecall t v).node (planned t frames r (past_ecall t v) (plan (reg r 17) (arguments_of r))) (past_ecall-keeps p free v.node t)
             (planned-keeps frames r (past_ecall t v) h (still-new v none) (plan (reg r 17) (arguments_of r)))
         go (Some On) = raise On
         go (Some Break) = raise Break

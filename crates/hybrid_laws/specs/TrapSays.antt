@@ -38,9 +38,9 @@ abbrev pub TrappedSays : ℕ → ℕ → View → Trapped → Type 0
 TrappedSays t frames v (Done w) = Unit {0}
 TrappedSays t frames v (Forks w child stores) = ForkSays t frames v w child
 TrappedSays t frames v (Begins new progress) =
-  (new ≡ (past_ecall t v).node) × (phases : List CallPhase) × (plan (reg (call_regs t v.node) 17) (arguments_of (call_regs t v.node)) ≡ Delegated phases) × (progress ≡ starting (reg (call_regs t v.node) 17) (arguments_of (call_regs t v.node)) phases)
+    (new ≡ (past_ecall t v).node) × (phases : List CallPhase) × (plan (reg (call_regs t v.node) 17) (arguments_of (call_regs t v.node)) ≡ Delegated phases) × (progress ≡ starting (reg (call_regs t v.node) 17) (arguments_of (call_regs t v.node)) phases)
 TrappedSays t frames v (Changes new change) =
-  (new ≡ (past_ecall t v).node) × (decide (process_of new (thread_of new t).process) v.memory frames (reg (call_regs t v.node) 17) (arguments_of (call_regs t v.node)) ≡ Now change)
+    (new ≡ (past_ecall t v).node) × (decide (process_of new (thread_of new t).process) v.memory frames (reg (call_regs t v.node) 17) (arguments_of (call_regs t v.node)) ≡ Now change)
 
 module _ (t frames : ℕ) (v : View) where
   abbrev r : Regs
@@ -54,10 +54,12 @@ module _ (t frames : ℕ) (v : View) where
     where
       n : ℕ
       n = v.node.next_number
+
       told : (b c : Bool) → (cond b (cond c (store parent_tid (little_endian 4 n) behind) behind) behind).node ≡ behind.node
       told true true = refl
       told true false = refl
       told false c = refl
+
       go : (b c d : Bool) → nat_lt frames (count v.memory) ≡ d → TrappedSays t frames v (cloned (cond b (cond c (CallDone (refuses t EAGAIN behind)) (cond d (CallDone (refuses t ENOMEM behind)) (forks t flags stack parent_tid tls child_tid behind))) (CallDone (clone t flags stack parent_tid tls child_tid behind))))
       go true true d e = tt
       go true false true e = tt
@@ -69,7 +71,7 @@ module _ (t frames : ℕ) (v : View) where
   local-says number arguments = go (number == 220) (fork-says (get_or arguments 0 0) (get_or arguments 1 0) (get_or arguments 2 0) (get_or arguments 3 0) (get_or arguments 4 0))
     where
       go : (b : Bool) → TrappedSays t frames v (cloned (clone_or_fork t frames (get_or arguments 0 0) (get_or arguments 1 0) (get_or arguments 2 0) (get_or arguments 3 0) (get_or arguments 4 0) behind))
-        → TrappedSays t frames v (cloned (cond b (clone_or_fork t frames (get_or arguments 0 0) (get_or arguments 1 0) (get_or arguments 2 0) (get_or arguments 3 0) (get_or arguments 4 0) behind) (CallDone (one_of_calls t number (λ k. get_or arguments k 0) behind))))
+          → TrappedSays t frames v (cloned (cond b (clone_or_fork t frames (get_or arguments 0 0) (get_or arguments 1 0) (get_or arguments 2 0) (get_or arguments 3 0) (get_or arguments 4 0) behind) (CallDone (one_of_calls t number (λ k. get_or arguments k 0) behind))))
       go true k = k
       go false k = tt
 

@@ -34,18 +34,24 @@ clones-node t flags stack parent_tid tls child_tid v = ap (answered t (pos n)) (
   where
     n : ℕ
     n = v.node.next_number
+
     x : Thread
     x = cloned_thread v.node (thread_of v.node t) flags stack tls child_tid
+
     made : View
     made = on_node (with_thread x) v
+
     told : View
     told = cond (has_bit 20 flags) (try_store parent_tid (little_endian 4 n) made) made
+
     inner : (b c : Bool) → (cond b (cond c (store parent_tid (little_endian 4 n) made) made) made).node ≡ with_thread x v.node
     inner true true = refl
     inner true false = refl
     inner false c = refl
+
     told-node : told.node ≡ with_thread x v.node
     told-node = inner (has_bit 20 flags) (may_access v.memory Write parent_tid (length (little_endian 4 n)))
+
     outer : (b c : Bool) → (cond b (cond c (store child_tid (little_endian 4 n) told) told) told).node ≡ with_thread x v.node
     outer true true = told-node
     outer true false = told-node
@@ -74,28 +80,46 @@ module _ (t : ℕ) where
       where
         y : Thread
         y = cloned_thread v.node (thread_of v.node t) flags stack tls child_tid
+
         same : thread_of v.node t ≡ x
         same = thread-is v.node t x there
+
         process : y.process ≡ x.process
         process = ap (λ (z : Thread). z.process) same
+
         few' : length (threads_of v.node x.process) < 16
         few' = subst (λ (q : ℕ). length (threads_of v.node q) < 16) process few
+
         place : y.place ≡ lowest_free_place v.node x.process
         place = ap (lowest_free_place v.node) process
+
         more : Node
         more = with_thread y v.node
+
         sound : Sound more
         sound = more-sound v.node s t x there few' y process place refl
+
         there-more : at more.threads t ≡ Some x
         there-more = at-put v.node.threads v.node.next_number y t ∙ (let l = s.threads_below t x there in let d : (t == v.node.next_number) ≡ false = grind (arith, nat_tests, l) in ap (λ b. cond b (Some y) (at v.node.threads t)) d) ∙ there
+
         answered-steps : NodeSteps more (answered t (pos v.node.next_number) more)
         answered-steps = awake-steps more (answered t (pos v.node.next_number) more) sound awake (answered-closed t (GoesAwake t) (GoesOn t) (goes-closed t) more (pos v.node.next_number))
+
         less : total stops (answered t (pos v.node.next_number) more).threads + 1 ≡ total stops more.threads
         less = stops-fewer more t x (λ z. record z { regs = set_a0 (word_of (pos v.node.next_number)) z.regs; does = Ready }) there-more (ap is_stopped stopped) refl
+
         made : NodeSteps v.node (answered t (pos v.node.next_number) more)
         made = record {
-          sound = answered-steps.sound; frames = refl; limit = refl; files = refl; instructions = refl; made = λ q. refl; ended = λ q. refl; numbers = omega arith;
-          paid = (let a = less in let b = more-stops v.node s t x there few' y process place refl in omega (arith, a, b)) }
+          sound = answered-steps.sound;
+          frames = refl;
+          limit = refl;
+          files = refl;
+          instructions = refl;
+          made = λ q. refl;
+          ended = λ q. refl;
+          numbers = omega arith;
+          paid = (let a = less in let b = more-stops v.node s t x there few' y process place refl in omega (arith, a, b));
+        }
 
     clone-steps : (flags stack parent_tid tls child_tid : ℕ) → NodeSteps v.node (clone t flags stack parent_tid tls child_tid v).node
     clone-steps flags stack parent_tid tls child_tid = go (not (are_clone_flags flags)) (nat_le most_threads (length (threads_of v.node (thread_of v.node t).process))) refl
@@ -119,7 +143,7 @@ module _ (t : ℕ) where
     local-steps frames number arguments = go (number == 220) (fork-steps frames (get_or arguments 0 0) (get_or arguments 1 0) (get_or arguments 2 0) (get_or arguments 3 0) (get_or arguments 4 0))
       where
         go : (b : Bool) → TrappedSteps v.node (cloned (clone_or_fork t frames (get_or arguments 0 0) (get_or arguments 1 0) (get_or arguments 2 0) (get_or arguments 3 0) (get_or arguments 4 0) v))
-          → TrappedSteps v.node (cloned (cond b (clone_or_fork t frames (get_or arguments 0 0) (get_or arguments 1 0) (get_or arguments 2 0) (get_or arguments 3 0) (get_or arguments 4 0) v) (CallDone (one_of_calls t number (λ k. get_or arguments k 0) v))))
+            → TrappedSteps v.node (cloned (cond b (clone_or_fork t frames (get_or arguments 0 0) (get_or arguments 1 0) (get_or arguments 2 0) (get_or arguments 3 0) (get_or arguments 4 0) v) (CallDone (one_of_calls t number (λ k. get_or arguments k 0) v))))
         go true k = k
         go false k = on (one_of_calls t number (λ k. get_or arguments k 0) v).node (calls-closed t (GoesAwake t) (GoesOn t) (goes-closed t) number (λ k. get_or arguments k 0) v)
 
@@ -166,11 +190,12 @@ module _ (t : ℕ) where
       where
         raise : (z : Stop) → NodeSteps v.node (raised t (signal_of_stop z) v.node)
         raise z = raised-steps v s x there stop stopped awake-stopped (signal_of_stop z)
+
         go : (o : Option Stop) → TrappedSteps v.node (trap_of_stop t frames v o)
         go None = steps-of v.node v.node s (goes-same v.node) s.sleeping
         go (Some Ecall) =
-          let r = (thread_of v.node t).regs in
-          after-past (planned t frames r behind (plan (reg r 17) (arguments_of r)))
+            let r = (thread_of v.node t).regs in
+            after-past (planned t frames r behind (plan (reg r 17) (arguments_of r)))
             (planned-steps behind past-steps.sound (record x { regs = set_pc (x.regs.pc + 4) x.regs }) past-there stop stopped awake-stopped frames r (plan (reg r 17) (arguments_of r)))
         go (Some On) = raise On
         go (Some Break) = raise Break

@@ -21,5 +21,5 @@ none-idle p node u x e f own = absurd (grind (arith, e))
 
 pub shown-view : (h : Here) (v : View) → TableApart h.side.lwk.table → h.born ≡ None → Steps.with_view v (shown_here h) ≡ shown_here (with_view v h)
 shown-view h v apart none =
-  let a = sym (shown-back h.side.lwk.table h.frames (stored_all v.stores (memory_here h)) apart (stored_all-rights v.stores (memory_here h))) in
-  rw none (λ i. record { own = record { memory = a i; calls = each (shown_call h.side) h.side.lwk.callers }; node = v.node; free = length h.free; born = None })
+    let a = sym (shown-back h.side.lwk.table h.frames (stored_all v.stores (memory_here h)) apart (stored_all-rights v.stores (memory_here h))) in
+    rw none (λ i. record { own = record { memory = a i; calls = each (shown_call h.side) h.side.lwk.callers }; node = v.node; free = length h.free; born = None })

@@ -41,12 +41,12 @@ pub record MayWait (node : Node) (t : ℕ) : Type 0 where
 
 pub may-wait : (node : Node) (t : ℕ) → may_wait node t ≡ true → MayWait node t
 may-wait node t e =
-  let x = thread_of node t in
-  let a = both (is_some (at node.threads t) && is_living node x.process) (may_end_wait_of node x.process (wait_of x.does)) e in
-  let b = both (is_some (at node.threads t)) (is_living node x.process) a.0 in
-  let y = some-is (at node.threads t) b.0 in
-  let f = thread-is node t y.0 y.1 in
-  record { thread = y.0; there = y.1; free = ap (λ (z : Thread). is_pinned z.does) (sym f) ∙ waiting (thread_of node t).does (wait_of x.does) refl a.1 }
+    let x = thread_of node t in
+    let a = both (is_some (at node.threads t) && is_living node x.process) (may_end_wait_of node x.process (wait_of x.does)) e in
+    let b = both (is_some (at node.threads t)) (is_living node x.process) a.0 in
+    let y = some-is (at node.threads t) b.0 in
+    let f = thread-is node t y.0 y.1 in
+    record { thread = y.0; there = y.1; free = ap (λ (z : Thread). is_pinned z.does) (sym f) ∙ waiting (thread_of node t).does (wait_of x.does) refl a.1 }
   where
     waiting : (d : Does) (o : Option (ℤ × ℕ)) → wait_of d ≡ o → may_end_wait_of node (thread_of node t).process o ≡ true → is_pinned d ≡ false
     waiting d None f k = absurd (grind (arith, k))
@@ -63,8 +63,8 @@ module _ (p : ℕ) (t : Tid) (h : Here) (m : may_here (Events.Wait t) h ≡ true
 
   pub keeps_wait : (q : ℕ) (side : Side) (workers : ℕ) (ring : ℕ → ℕ) → OfProcess q side h.node workers ring → OfProcess q side (after_here (Events.Wait t) p h).node workers ring
   keeps_wait q side workers ring k =
-    let w = may-wait h.node t.0 m in
-    node-keeps q (λ u. u == t.0) side h.node (waited t.0 (view_here h)).node workers ring (waited-keeps q) (idle-one q t.0 h.node w.thread w.there w.free) k
+      let w = may-wait h.node t.0 m in
+      node-keeps q (λ u. u == t.0) side h.node (waited t.0 (view_here h)).node workers ring (waited-keeps q) (idle-one q t.0 h.node w.thread w.there w.free) k
 
   pub simulated_wait : TableApart h.side.lwk.table → h.born ≡ None → Simulated (Events.Wait t) p h
   simulated_wait apart none = simulated-one (Events.Wait t) p h (Steps.Wait t) refl m (shown-view h (waited t.0 (view_here h)) apart none)

@@ -73,7 +73,7 @@ module _ (pair : Pair) (c : Coherent pair) (q : Pid) (w : ℕ) (e : may pair (Ev
 
   carried : Carries progress.found None pair.node.files.descriptions files.descriptions
   carried = subst (λ (f : Files). Carries progress.found None pair.node.files.descriptions f.descriptions) (shown.files p q w h allowed pair.workers (ring_number pair) (c.whole p) none)
-    (gives-back pair.node.files progress.found (calls.found-held pair c p there n Faulted call is refl active))
+      (gives-back pair.node.files progress.found (calls.found-held pair c p there n Faulted call is refl active))
 
   now : status_of side n ≡ Over (fault_answer progress)
   unfolding post_answer
@@ -90,7 +90,7 @@ module _ (pair : Pair) (c : Coherent pair) (q : Pid) (w : ℕ) (e : may pair (Ev
       go : (b : Bool) → is_turn_for p n (Some t) ≡ b → b ≡ false
       go false f = refl
       go true f =
-        absurd (let a = both (t.process == p) (t.request == n) f in
+          absurd (let a = both (t.process == p) (t.request == n) f in
           let y : t.process ≡ p = grind (arith, nat_tests, a.0) in
           let z : t.request ≡ n = grind (arith, nat_tests, a.1) in
           let u : waits_or_held (state_of (side_of pair p).book n) ≡ true = ap (λ (j : ℕ). waits_or_held (state_of (side_of pair p).book j)) (sym z) ∙ ap (λ (j : ℕ). waits_or_held (state_of (side_of pair j).book t.request)) (sym y) ∙ (c.turns x t i).waits in
@@ -100,29 +100,29 @@ module _ (pair : Pair) (c : Coherent pair) (q : Pid) (w : ℕ) (e : may pair (Ev
   turns : TurnsHold (pair_after pair c p there side files pair.frames pair.turns)
   unfolding post_answer
   turns = turns-after pair c p there side files pair.frames pair.turns n (λ x t i f. i)
-    (λ x i. absurd (let a = no-turn (record { process = p; request = n }) x i in let b : (p == p) ≡ true = grind (arith, nat_tests) in let d : (n == n) ≡ true = grind (arith, nat_tests) in let z = rw (b, d) at a in grind (arith, z)))
-    (λ x f u. u) (λ x f. refl)
-    (calls.ends-stay pair c p there n Faulted call is refl active side files (Over (fault_answer progress)) refl now others carried tt)
+      (λ x i. absurd (let a = no-turn (record { process = p; request = n }) x i in let b : (p == p) ≡ true = grind (arith, nat_tests) in let d : (n == n) ≡ true = grind (arith, nat_tests) in let z = rw (b, d) at a in grind (arith, z)))
+      (λ x f u. u) (λ x f. refl)
+      (calls.ends-stay pair c p there n Faulted call is refl active side files (Over (fault_answer progress)) refl now others carried tt)
 
   pub coherent_answer_empty : Coherent (after pair (Events.Answer q w))
   unfolding post_answer
   coherent_answer_empty = coherent-after pair c p there side files pair.frames pair.turns
-    (files-any p side h.node pair.workers (ring_number pair) files
+      (files-any p side h.node pair.workers (ring_number pair) files
       (keeps_post_answer p (side_of pair p) pair.node pair.workers (ring_number pair) (c.whole p) w (ring_of h (thread_served h.side w)) (may_be_answered p q w h allowed)))
-    refl refl (length-post (ring_of h (thread_served h.side w)) (Answer w (noted_of h.side w).0 h.side.lwk.begun (answer_to h.side w)) h.side.to_linux (ring-there h (thread_served h.side w) (rings-hold pair c p there)))
-    turns
-    (held-after pair c p there side files pair.frames pair.turns (λ d. let a = carried.calls d in let b = calls.holders-now pair c p there n Faulted call is refl active side files (Over (fault_answer progress)) refl now others carried tt d in omega (arith, a, b)))
-    (calls.calls-now pair c p there n Faulted call is refl active side files (Over (fault_answer progress)) refl now others carried tt)
+      refl refl (length-post (ring_of h (thread_served h.side w)) (Answer w (noted_of h.side w).0 h.side.lwk.begun (answer_to h.side w)) h.side.to_linux (ring-there h (thread_served h.side w) (rings-hold pair c p there)))
+      turns
+      (held-after pair c p there side files pair.frames pair.turns (λ d. let a = carried.calls d in let b = calls.holders-now pair c p there n Faulted call is refl active side files (Over (fault_answer progress)) refl now others carried tt d in omega (arith, a, b)))
+      (calls.calls-now pair c p there n Faulted call is refl active side files (Over (fault_answer progress)) refl now others carried tt)
 
   pub simulated_pair_answer_empty : SimulatedPair pair (Events.Answer q w)
   unfolding post_answer
   simulated_pair_answer_empty = simulated-pair pair p (has-side pair c.known p there) (Events.Answer q w) refl
-    (simulated_answer_empty p q w h allowed pair.workers (ring_number pair) (c.whole p) none) most refl (λ x s m f. refl)
+      (simulated_answer_empty p q w h allowed pair.workers (ring_number pair) (c.whole p) none) most refl (λ x s m f. refl)
     where
       thread-own : (thread_of pair.node (thread_served h.side w)).process ≡ p
       thread-own =
-        let t = the-thread p h.side h.node h.workers (ring_number pair) (c.whole p) n Faulted call is refl in
-        ap (λ (x : ℕ). (thread_of pair.node x).process) (thread-served-is h.side w n Faulted call (shown.next p q w h allowed pair.workers (ring_number pair) (c.whole p) none).serves is) ∙ ap (λ (o : Option Thread). (unwrap_or o no_thread).process) t.1 ∙ t.2
+          let t = the-thread p h.side h.node h.workers (ring_number pair) (c.whole p) n Faulted call is refl in
+          ap (λ (x : ℕ). (thread_of pair.node x).process) (thread-served-is h.side w n Faulted call (shown.next p q w h allowed pair.workers (ring_number pair) (c.whole p) none).serves is) ∙ ap (λ (o : Option Thread). (unwrap_or o no_thread).process) t.1 ∙ t.2
 
       most : AtMostOne pair.node p (image_here (Events.Answer q w) p h)
       most = subst (λ (o : Option Row). AtMostOne pair.node p (image_of_answer o (thread_served h.side w))) (sym none) thread-own

@@ -55,9 +55,9 @@ module _ (pair : Pair) (c : Coherent pair) (q : Pid) (w : ℕ) (e : may pair (Ev
   pub coherent_answer_row : Coherent (after pair (Events.Answer q w))
   unfolding post_answer
   coherent_answer_row = subst Coherent (sym after-is) (coherent-silent pair c p there side pair.turns
-    (keeps_post_answer p (side_of pair p) pair.node pair.workers (ring_number pair) (c.whole p) w (ring_of h (thread_served h.side w)) (may_be_answered p q w h allowed))
-    refl refl refl (length-post (ring_of h (thread_served h.side w)) (Answer w (noted_of h.side w).0 h.side.lwk.begun (answer_to h.side w)) h.side.to_linux (ring-there h (thread_served h.side w) (rings-hold pair c p there)))
-    shown (turns-stay pair c p there side (λ x u. (u, refl))))
+      (keeps_post_answer p (side_of pair p) pair.node pair.workers (ring_number pair) (c.whole p) w (ring_of h (thread_served h.side w)) (may_be_answered p q w h allowed))
+      refl refl refl (length-post (ring_of h (thread_served h.side w)) (Answer w (noted_of h.side w).0 h.side.lwk.begun (answer_to h.side w)) h.side.to_linux (ring-there h (thread_served h.side w) (rings-hold pair c p there)))
+      shown (turns-stay pair c p there side (λ x u. (u, refl))))
 
   pub simulated_pair_answer_row : SimulatedPair pair (Events.Answer q w)
   unfolding post_answer

@@ -60,11 +60,11 @@ module _ (pair : Pair) (c : Coherent pair) (t : Tid) (e : may pair (Events.Begin
   pub coherent_begin_vm : Coherent (after pair (Events.BeginVm t))
   unfolding begin_round
   coherent_begin_vm = subst Coherent (sym after-is) (coherent-silent pair c p there begun pair.turns
-    (keeps_begin_round p (side_of pair p) pair.node pair.workers (ring_number pair) (c.whole p) t.0 w.thread w.change w.there (sym (ap (λ (z : Thread). z.process) (thread-is pair.node t.0 w.thread w.there))) w.does w.none)
-    refl refl refl (length-post (ring_of h t.0) (Clear (closing_range (process_of pair.node p) w.change)) (side_of pair p).to_linux (ring-there h t.0 (rings-hold pair c p there)))
-    (image_begin_vm pair.frames (side_of pair p) (ring_of h t.0) t.0 (closing_range (process_of pair.node p) w.change))
-    (turns-stay pair c p there begun (λ x u. (u, refl))))
+      (keeps_begin_round p (side_of pair p) pair.node pair.workers (ring_number pair) (c.whole p) t.0 w.thread w.change w.there (sym (ap (λ (z : Thread). z.process) (thread-is pair.node t.0 w.thread w.there))) w.does w.none)
+      refl refl refl (length-post (ring_of h t.0) (Clear (closing_range (process_of pair.node p) w.change)) (side_of pair p).to_linux (ring-there h t.0 (rings-hold pair c p there)))
+      (image_begin_vm pair.frames (side_of pair p) (ring_of h t.0) t.0 (closing_range (process_of pair.node p) w.change))
+      (turns-stay pair c p there begun (λ x u. (u, refl))))
 
   pub simulated_pair_begin_vm : SimulatedPair pair (Events.BeginVm t)
   simulated_pair_begin_vm = simulated-pair pair p (has-side pair c.known p there) (Events.BeginVm t) refl (simulated_begin_vm p t h allowed refl) tt
-    (ap (λ (o : Option Change). (begin_vm_of p t.0 o h).born) change-here) (λ q s n f. ap (λ (o : Option Change). shown_own (begin_vm_of p t.0 o h).frames s) change-here)
+      (ap (λ (o : Option Change). (begin_vm_of p t.0 o h).born) change-here) (λ q s n f. ap (λ (o : Option Change). shown_own (begin_vm_of p t.0 o h).frames s) change-here)

@@ -160,7 +160,7 @@ module _ (pair : Pair) (c : Coherent pair) (p : ℕ) (there : is_there pair.node
   module _ (side : Side) (files : Files) (status : CallStatus) (callers : side.lwk.callers ≡ old.lwk.callers)
       (now : status_of side n ≡ status) (others : (x : ℕ) → (x == n) ≡ false → status_of side x ≡ status_of old x)
       (carries : Carries progress.found (description_held status) pair.node.files.descriptions files.descriptions) (goes : StatusHolds status) where
-    pub     ends-stay : (t : Turn) (e : ℕ) → at pair.turns e ≡ Some t → is_turn_for p n (Some t) ≡ false → let j = (service_of (side_of pair t.process).linux.services t.request).progress in pipe_end pair.node.files j ≡ Some e → pipe_end files j ≡ Some e
+    pub ends-stay : (t : Turn) (e : ℕ) → at pair.turns e ≡ Some t → is_turn_for p n (Some t) ≡ false → let j = (service_of (side_of pair t.process).linux.services t.request).progress in pipe_end pair.node.files j ≡ Some e → pipe_end files j ≡ Some e
     ends-stay t e i f u = go (service_of (side_of pair t.process).linux.services t.request).progress.found refl u
       where
         go : (o : Option ℕ) → (service_of (side_of pair t.process).linux.services t.request).progress.found ≡ o → end_of_found pair.node.files o ≡ Some e → end_of_found files o ≡ Some e

@@ -36,13 +36,13 @@ module _ (pair : Pair) (c : Coherent pair) (t : Tid) (e : may pair (Events.Deliv
 
   awake : IsAwake t.0 pair.node
   awake =
-    let x = thread_of pair.node t.0 in
-    let a = both (is_some (at pair.node.threads t.0) && ready_to_run x.does && is_living pair.node x.process) (is_deliverable pair.node t.0) allowed in
-    let b = both (is_some (at pair.node.threads t.0) && ready_to_run x.does) (is_living pair.node x.process) a.0 in
-    let d = both (is_some (at pair.node.threads t.0)) (ready_to_run x.does) b.0 in
-    let y = some-is (at pair.node.threads t.0) d.0 in
-    let r = ready-is y.0.does (ap (λ (z : Thread). ready_to_run z.does) (sym (thread-is pair.node t.0 y.0 y.1)) ∙ d.1) in
-    is-awake pair.node t.0 y.0 y.1 (ap is_asleep r) c.sleeping
+      let x = thread_of pair.node t.0 in
+      let a = both (is_some (at pair.node.threads t.0) && ready_to_run x.does && is_living pair.node x.process) (is_deliverable pair.node t.0) allowed in
+      let b = both (is_some (at pair.node.threads t.0) && ready_to_run x.does) (is_living pair.node x.process) a.0 in
+      let d = both (is_some (at pair.node.threads t.0)) (ready_to_run x.does) b.0 in
+      let y = some-is (at pair.node.threads t.0) d.0 in
+      let r = ready-is y.0.does (ap (λ (z : Thread). ready_to_run z.does) (sym (thread-is pair.node t.0 y.0 y.1)) ∙ d.1) in
+      is-awake pair.node t.0 y.0 y.1 (ap is_asleep r) c.sleeping
 
   goes : GoesAwake t.0 pair.node (deliver t.0 (view_here h)).node
   goes = deliver-closed t.0 (GoesAwake t.0) (GoesOn t.0) (goes-closed t.0) (view_here h)
@@ -50,10 +50,10 @@ module _ (pair : Pair) (c : Coherent pair) (t : Tid) (e : may pair (Events.Deliv
   pub coherent_deliver : Coherent (after pair (Events.Deliver t))
   unfolding after_deliver
   coherent_deliver = coherent-later pair c p there (side_of pair p) (deliver t.0 (view_here h)).node (after_deliver t.0 h).frames pair.free (after_deliver t.0 h).last
-    (keeping-quiet pair c p there (deliver t.0 (view_here h)).node (after_deliver t.0 h).frames (after_deliver t.0 h).last
+      (keeping-quiet pair c p there (deliver t.0 (view_here h)).node (after_deliver t.0 h).frames (after_deliver t.0 h).last
       (λ q. keeps_deliver p t h q (side_of pair q) pair.workers (ring_number pair) (c.whole q)) goes.goes (sleeping-after t.0 pair.node (deliver t.0 (view_here h)).node goes awake c.sleeping))
 
   pub simulated_pair_deliver : SimulatedPair pair (Events.Deliver t)
   unfolding after_deliver
   simulated_pair_deliver = simulated-pair pair p (has-side pair c.known p there) (Events.Deliver t) refl (simulated_deliver p t h allowed (apart-own pair c p) refl) refl refl
-    (λ q s n f. other-shown pair c p (stored_all (deliver t.0 (view_here h)).stores (memory_here h)) q s n f)
+      (λ q s n f. other-shown pair c p (stored_all (deliver t.0 (view_here h)).stores (memory_here h)) q s n f)

@@ -47,8 +47,8 @@ break-bound x h m free (ChangeMap r rights) none = h.below
 break-bound x h m free (Unmap r) none = h.below
 break-bound x h m free (Protect r rights) none = h.below
 break-bound x h m free (Brk a) none =
-  let l : a < x.program_break = (let t = is-none (nat_lt a x.program_break) (pos x.program_break) none in grind (arith, nat_tests, t)) in
-  let b = h.below in omega (arith, l, b)
+    let l : a < x.program_break = (let t = is-none (nat_lt a x.program_break) (pos x.program_break) none in grind (arith, nat_tests, t)) in
+    let b = h.below in omega (arith, l, b)
 
 module _ (pair : Pair) (c : Coherent pair) (q : Pid) (there : is_there pair.node q.0 ≡ true) (rest : List Msg) (first : (side_of pair q.0).to_lwk ≡ Ack ∷ rest) where
   abbrev p : ℕ
@@ -83,8 +83,8 @@ module _ (pair : Pair) (c : Coherent pair) (q : Pid) (there : is_there pair.node
 
   awake : IsAwake thread pair.node
   awake =
-    let w = (ack.w p h pair.workers (ring_number pair) k rest first heap).owns in
-    is-awake pair.node thread w.thread w.there (ap is_asleep w.does) c.sleeping
+      let w = (ack.w p h pair.workers (ring_number pair) k rest first heap).owns in
+      is-awake pair.node thread w.thread w.there (ap is_asleep w.does) c.sleeping
 
   abbrev over : Side
   over = round_over rest h.side
@@ -116,26 +116,27 @@ module _ (pair : Pair) (c : Coherent pair) (q : Pid) (there : is_there pair.node
 
     refused : refusal ≡ Some answer → Keeping pair c p there (side h.side.lwk.table) node pair.frames pair.free pair.last
     refused r =
-      let stays = goes-stays pair.node node goes.goes in
-      record {
-        own = subst (λ (o : Option ℤ). OfProcess p (changed p thread change o (with_side h over)).side (changed p thread change o (with_side h over)).node pair.workers (ring_number pair)) r (ack.keeps-changed p h pair.workers (ring_number pair) k rest first heap refusal refl);
-        others = λ x d. ack.others-changed p h pair.workers (ring_number pair) k rest first heap (Some answer) x (side_of pair x) pair.workers (ring_number pair) d (c.whole x);
-        framed = own-frames pair c p;
-        rows_below = c.counted.rows_below p;
-        free_below = c.counted.free_below;
-        counted = refl;
-        frame_count = goes.goes.frames;
-        made = same-made pair.node node stays;
-        ended_others = λ x d f. sym (same-ended pair.node node stays x) ∙ f;
-        ended_own = λ f. absurd (let a = there-open pair.node p there in let b = sym (same-ended pair.node node stays p) ∙ f in grind (arith, a, b));
-        rings = refl;
-        turns = λ x u. (u, refl);
-        ends = λ t e i u. ap (λ (f : Files). pipe_end f (service_of (side_of pair t.process).linux.services t.request).progress) goes.goes.files ∙ u;
-        held = λ d. (let a = held-same h.side.lwk.table d in let b = ap (λ (f : Files). (description_of f d).calls) goes.goes.files in omega (arith, a, b));
-        calls = calls-hold h.side.lwk.table;
-        sound = goes-sound pair.node node goes.goes (sound-of pair c) (sleeping-after thread pair.node node goes awake c.sleeping);
-        paid = (let a = stopped-less pair.node node goes.goes in let b = same-instructions pair.node node goes.goes in let d = goes.goes.next in omega (arith, a, b, d));
-        limit = (let a = same-instructions pair.node node goes.goes in let b = goes.goes.limit in let d = c.numbers.limit in omega (arith, a, b, d)) }
+        let stays = goes-stays pair.node node goes.goes in
+        record {
+          own = subst (λ (o : Option ℤ). OfProcess p (changed p thread change o (with_side h over)).side (changed p thread change o (with_side h over)).node pair.workers (ring_number pair)) r (ack.keeps-changed p h pair.workers (ring_number pair) k rest first heap refusal refl);
+          others = λ x d. ack.others-changed p h pair.workers (ring_number pair) k rest first heap (Some answer) x (side_of pair x) pair.workers (ring_number pair) d (c.whole x);
+          framed = own-frames pair c p;
+          rows_below = c.counted.rows_below p;
+          free_below = c.counted.free_below;
+          counted = refl;
+          frame_count = goes.goes.frames;
+          made = same-made pair.node node stays;
+          ended_others = λ x d f. sym (same-ended pair.node node stays x) ∙ f;
+          ended_own = λ f. absurd (let a = there-open pair.node p there in let b = sym (same-ended pair.node node stays p) ∙ f in grind (arith, a, b));
+          rings = refl;
+          turns = λ x u. (u, refl);
+          ends = λ t e i u. ap (λ (f : Files). pipe_end f (service_of (side_of pair t.process).linux.services t.request).progress) goes.goes.files ∙ u;
+          held = λ d. (let a = held-same h.side.lwk.table d in let b = ap (λ (f : Files). (description_of f d).calls) goes.goes.files in omega (arith, a, b));
+          calls = calls-hold h.side.lwk.table;
+          sound = goes-sound pair.node node goes.goes (sound-of pair c) (sleeping-after thread pair.node node goes awake c.sleeping);
+          paid = (let a = stopped-less pair.node node goes.goes in let b = same-instructions pair.node node goes.goes in let d = goes.goes.next in omega (arith, a, b, d));
+          limit = (let a = same-instructions pair.node node goes.goes in let b = goes.goes.limit in let d = c.numbers.limit in omega (arith, a, b, d));
+        }
 
   -- ---- made
   abbrev set : Node
@@ -149,36 +150,37 @@ module _ (pair : Pair) (c : Coherent pair) (q : Pid) (there : is_there pair.node
 
   set-sound : refusal ≡ None → Sound set
   set-sound r = break-sound pair.node p e.program_break (λ x f. (let b = break-bound (process_of pair.node p) heap (memory_here h) (length h.free) change r in let g = sym made.1 ∙ f in let z : made.0 ≡ x = cc in
-    let y = ap (λ (w : Process). w.heap_base) (process-is ∙ z) in omega (arith, b, y))) (sound-of pair c)
+      let y = ap (λ (w : Process). w.heap_base) (process-is ∙ z) in omega (arith, b, y))) (sound-of pair c)
 
   abbrev sp : Space
   sp = after_effect e (space_here h)
 
   made-change : refusal ≡ None → Keeping pair c p there (side sp.table) done sp.frames sp.free pair.last
   made-change r =
-    let stays = goes-stays set done done-goes.goes in
-    let l = fits_at_end (process_of pair.node p) (space_here h) change r in
-    let none = absent-at-end (process_of pair.node p) (space_here h) change r in
-    let ended = λ (x : ℕ). same-ended set done stays x ∙ set-ended pair.node p e.program_break x in
-    record {
-      own = subst (λ (o : Option ℤ). OfProcess p (changed p thread change o (with_side h over)).side (changed p thread change o (with_side h over)).node pair.workers (ring_number pair)) r (ack.keeps-changed p h pair.workers (ring_number pair) k rest first heap refusal refl);
-      others = λ x d. ack.others-changed p h pair.workers (ring_number pair) k rest first heap None x (side_of pair x) pair.workers (ring_number pair) d (c.whole x);
-      framed = framed-effect pair c p e l none;
-      rows_below = (below-after pair c p e l none).rows;
-      free_below = (below-after pair c p e l none).free;
-      counted = counted-after pair c p e l none;
-      frame_count = done-goes.goes.frames;
-      made = λ x. same-made set done stays x ∙ set-made pair.node p e.program_break x;
-      ended_others = λ x d f. sym (ended x) ∙ f;
-      ended_own = λ f. absurd (let a = there-open pair.node p there in let b = sym (ended p) ∙ f in grind (arith, a, b));
-      rings = refl;
-      turns = λ x u. (u, refl);
-      ends = λ t e i u. ap (λ (f : Files). pipe_end f (service_of (side_of pair t.process).linux.services t.request).progress) done-goes.goes.files ∙ u;
-      held = λ d. (let a = held-same sp.table d in let b = ap (λ (f : Files). (description_of f d).calls) done-goes.goes.files in omega (arith, a, b));
-      calls = calls-hold sp.table;
-      sound = goes-sound set done done-goes.goes (set-sound r) (sleeping-after thread set done done-goes awake (set-sound r).sleeping);
-      paid = (let a = stopped-less set done done-goes.goes in let b = same-instructions set done done-goes.goes in let d = done-goes.goes.next in let f = set-instructions pair.node p e.program_break in omega (arith, a, b, d, f));
-      limit = (let a = same-instructions set done done-goes.goes in let b = done-goes.goes.limit in let d = c.numbers.limit in let f = set-instructions pair.node p e.program_break in omega (arith, a, b, d, f)) }
+      let stays = goes-stays set done done-goes.goes in
+      let l = fits_at_end (process_of pair.node p) (space_here h) change r in
+      let none = absent-at-end (process_of pair.node p) (space_here h) change r in
+      let ended = λ (x : ℕ). same-ended set done stays x ∙ set-ended pair.node p e.program_break x in
+      record {
+        own = subst (λ (o : Option ℤ). OfProcess p (changed p thread change o (with_side h over)).side (changed p thread change o (with_side h over)).node pair.workers (ring_number pair)) r (ack.keeps-changed p h pair.workers (ring_number pair) k rest first heap refusal refl);
+        others = λ x d. ack.others-changed p h pair.workers (ring_number pair) k rest first heap None x (side_of pair x) pair.workers (ring_number pair) d (c.whole x);
+        framed = framed-effect pair c p e l none;
+        rows_below = (below-after pair c p e l none).rows;
+        free_below = (below-after pair c p e l none).free;
+        counted = counted-after pair c p e l none;
+        frame_count = done-goes.goes.frames;
+        made = λ x. same-made set done stays x ∙ set-made pair.node p e.program_break x;
+        ended_others = λ x d f. sym (ended x) ∙ f;
+        ended_own = λ f. absurd (let a = there-open pair.node p there in let b = sym (ended p) ∙ f in grind (arith, a, b));
+        rings = refl;
+        turns = λ x u. (u, refl);
+        ends = λ t e i u. ap (λ (f : Files). pipe_end f (service_of (side_of pair t.process).linux.services t.request).progress) done-goes.goes.files ∙ u;
+        held = λ d. (let a = held-same sp.table d in let b = ap (λ (f : Files). (description_of f d).calls) done-goes.goes.files in omega (arith, a, b));
+        calls = calls-hold sp.table;
+        sound = goes-sound set done done-goes.goes (set-sound r) (sleeping-after thread set done done-goes awake (set-sound r).sleeping);
+        paid = (let a = stopped-less set done done-goes.goes in let b = same-instructions set done done-goes.goes in let d = done-goes.goes.next in let f = set-instructions pair.node p e.program_break in omega (arith, a, b, d, f));
+        limit = (let a = same-instructions set done done-goes.goes in let b = done-goes.goes.limit in let d = c.numbers.limit in let f = set-instructions pair.node p e.program_break in omega (arith, a, b, d, f));
+      }
 
   -- ---- together
   coherent-changed : (o : Option ℤ) → refusal ≡ o → Coherent (put_here pair p (changed p thread change o (with_side h over)))
@@ -194,14 +196,17 @@ module _ (pair : Pair) (c : Coherent pair) (q : Pid) (there : is_there pair.node
     where
       whole : after_here (Events.Intake q) p h ≡ changed p thread change refusal (with_side h over)
       whole = ap (λ (ms : List Msg). intake p ms h) first ∙ ack.ack-is p h pair.workers (ring_number pair) k rest first heap
+
       unborn : (o : Option ℤ) → (changed p thread change o (with_side h over)).born ≡ None
       unborn None = refl
       unborn (Some a) = refl
+
       others : (o : Option ℤ) → refusal ≡ o → (x : ℕ) (s : Side) → (x == p) ≡ false → at pair.sides x ≡ Some s → shown_own (changed p thread change o (with_side h over)).frames s ≡ shown_own pair.frames s
       others (Some a) r x s m f = refl
       others None r x s m f = shown-else pair c p e (fits_at_end (process_of pair.node p) (space_here h) change r) x s m f
+
       most : AtMostOne pair.node p (image_here (Events.Intake q) p h)
       most =
-        let w = ack.w p h pair.workers (ring_number pair) k rest first heap in
-        subst (AtMostOne pair.node p) (sym (ap (λ (ms : List Msg). image_of_intake ms h.side) first ∙ ap (λ (o : Option ℕ). OneSteps.VmFinish (tid (unwrap_or o 0)) ∷ []) w.changing))
+          let w = ack.w p h pair.workers (ring_number pair) k rest first heap in
+          subst (AtMostOne pair.node p) (sym (ap (λ (ms : List Msg). image_of_intake ms h.side) first ∙ ap (λ (o : Option ℕ). OneSteps.VmFinish (tid (unwrap_or o 0)) ∷ []) w.changing))
           (ap (λ (z : Thread). z.process) (thread-is pair.node thread w.owns.thread w.owns.there) ∙ w.owns.own)

@@ -36,7 +36,7 @@ module _ (pair : Pair) (c : Coherent pair) (q : Pid) (there : is_there pair.node
   pub coherent_intake_fault : Coherent (after pair (Events.Intake q))
   unfolding take_fault
   coherent_intake_fault = subst Coherent (sym after-is) (coherent-silent pair c p there side pair.turns (keeps_fault p h w page a rest first pair.workers (ring_number pair) (c.whole p))
-    refl refl refl refl (ap (λ (o : OneHere). o.own) (shows_fault p h w page a rest first)) (turns-stay pair c p there side (λ x u. (u, refl))))
+      refl refl refl refl (ap (λ (o : OneHere). o.own) (shows_fault p h w page a rest first)) (turns-stay pair c p there side (λ x u. (u, refl))))
 
   pub simulated_pair_fault : SimulatedPair pair (Events.Intake q)
   unfolding take_fault

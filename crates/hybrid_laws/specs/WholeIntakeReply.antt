@@ -70,8 +70,8 @@ module _ (pair : Pair) (c : Coherent pair) (q : Pid) (there : is_there pair.node
 
   awake : IsAwake thread pair.node
   awake =
-    let x = reply.thread p h n code rest first pair.workers (ring_number pair) k in
-    is-awake pair.node thread x.0 x.1 (not-asleep x.0.does (reply.called p h n code rest first pair.workers (ring_number pair) k)) c.sleeping
+      let x = reply.thread p h n code rest first pair.workers (ring_number pair) k in
+      is-awake pair.node thread x.0 x.1 (not-asleep x.0.does (reply.called p h n code rest first pair.workers (ring_number pair) k)) c.sleeping
     where
       not-asleep : (d : Does) → is_called d ≡ true → is_asleep d ≡ false
       not-asleep Called e = refl
@@ -101,36 +101,37 @@ module _ (pair : Pair) (c : Coherent pair) (q : Pid) (there : is_there pair.node
   -- the call that is over holds no description
   held-same : (d : ℕ) → holders d side ≡ holders d h.side
   held-same d =
-    let a = entries-same (counts d side) (counts d h.side) side.lwk.callers (λ u x e. ap (λ s. cond (is_number d (description_held s)) 1 0) (same-status u x e)) in
-    let b = total-cut-by (counts d h.side) h.side.lwk.callers thread in
-    let z = ap (counted_at (counts d h.side) thread) calls ∙ ap (λ s. cond (is_number d (description_held s)) 1 0) (reply.status-own p h n code rest first pair.workers (ring_number pair) k) in
-    omega (arith, a, b, z)
+      let a = entries-same (counts d side) (counts d h.side) side.lwk.callers (λ u x e. ap (λ s. cond (is_number d (description_held s)) 1 0) (same-status u x e)) in
+      let b = total-cut-by (counts d h.side) h.side.lwk.callers thread in
+      let z = ap (counted_at (counts d h.side) thread) calls ∙ ap (λ s. cond (is_number d (description_held s)) 1 0) (reply.status-own p h n code rest first pair.workers (ring_number pair) k) in
+      omega (arith, a, b, z)
     where
       counts : ℕ → Side → ℕ × Caller → ℕ
       counts d s x = cond (is_number d (description_held (status_of s x.1.request))) 1 0
 
   keeping : Keeping pair c p there side node pair.frames pair.free pair.last
   keeping =
-    let stays = goes-stays pair.node node goes.goes in
-    record {
-      own = subst (λ (y : Here). OfProcess p y.side y.node pair.workers (ring_number pair)) taken-is (reply.keeps_reply p h n code rest first pair.workers (ring_number pair) k);
-      others = λ x d. subst (λ (y : Here). OfProcess x (side_of pair x) y.node pair.workers (ring_number pair)) (ap (λ (ms : List Msg). intake p ms h) first ∙ taken-is) (reply.others_intake_reply p h n code rest first pair.workers (ring_number pair) k x (side_of pair x) pair.workers (ring_number pair) d (c.whole x));
-      framed = own-frames pair c p;
-      rows_below = c.counted.rows_below p;
-      free_below = c.counted.free_below;
-      counted = refl;
-      frame_count = goes.goes.frames;
-      made = same-made pair.node node stays;
-      ended_others = λ x d f. sym (same-ended pair.node node stays x) ∙ f;
-      ended_own = λ f. absurd (let a = there-open pair.node p there in let b = sym (same-ended pair.node node stays p) ∙ f in grind (arith, a, b));
-      rings = refl;
-      turns = λ x u. (u, refl);
-      ends = λ t e i u. ap (λ (f : Files). pipe_end f (service_of (side_of pair t.process).linux.services t.request).progress) goes.goes.files ∙ u;
-      held = λ d. (let a = held-same d in let b = ap (λ (f : Files). (description_of f d).calls) goes.goes.files in omega (arith, a, b));
-      calls = λ u x e. subst StatusHolds (sym (same-status u x e)) (c.calls p u x (left u x e).1);
-      sound = goes-sound pair.node node goes.goes (sound-of pair c) sleeps;
-      paid = (let a = stopped-less pair.node node goes.goes in let b = same-instructions pair.node node goes.goes in let d = goes.goes.next in omega (arith, a, b, d));
-      limit = (let a = same-instructions pair.node node goes.goes in let b = goes.goes.limit in let d = c.numbers.limit in omega (arith, a, b, d)) }
+      let stays = goes-stays pair.node node goes.goes in
+      record {
+        own = subst (λ (y : Here). OfProcess p y.side y.node pair.workers (ring_number pair)) taken-is (reply.keeps_reply p h n code rest first pair.workers (ring_number pair) k);
+        others = λ x d. subst (λ (y : Here). OfProcess x (side_of pair x) y.node pair.workers (ring_number pair)) (ap (λ (ms : List Msg). intake p ms h) first ∙ taken-is) (reply.others_intake_reply p h n code rest first pair.workers (ring_number pair) k x (side_of pair x) pair.workers (ring_number pair) d (c.whole x));
+        framed = own-frames pair c p;
+        rows_below = c.counted.rows_below p;
+        free_below = c.counted.free_below;
+        counted = refl;
+        frame_count = goes.goes.frames;
+        made = same-made pair.node node stays;
+        ended_others = λ x d f. sym (same-ended pair.node node stays x) ∙ f;
+        ended_own = λ f. absurd (let a = there-open pair.node p there in let b = sym (same-ended pair.node node stays p) ∙ f in grind (arith, a, b));
+        rings = refl;
+        turns = λ x u. (u, refl);
+        ends = λ t e i u. ap (λ (f : Files). pipe_end f (service_of (side_of pair t.process).linux.services t.request).progress) goes.goes.files ∙ u;
+        held = λ d. (let a = held-same d in let b = ap (λ (f : Files). (description_of f d).calls) goes.goes.files in omega (arith, a, b));
+        calls = λ u x e. subst StatusHolds (sym (same-status u x e)) (c.calls p u x (left u x e).1);
+        sound = goes-sound pair.node node goes.goes (sound-of pair c) sleeps;
+        paid = (let a = stopped-less pair.node node goes.goes in let b = same-instructions pair.node node goes.goes in let d = goes.goes.next in omega (arith, a, b, d));
+        limit = (let a = same-instructions pair.node node goes.goes in let b = goes.goes.limit in let d = c.numbers.limit in omega (arith, a, b, d));
+      }
 
   pub coherent_intake_reply : Coherent (after pair (Events.Intake q))
   coherent_intake_reply = subst Coherent (sym after-is) (coherent-later pair c p there side node pair.frames pair.free pair.last keeping)
@@ -141,8 +142,10 @@ module _ (pair : Pair) (c : Coherent pair) (q : Pid) (there : is_there pair.node
     where
       whole : after_here (Events.Intake q) p h ≡ record h { side = side; node = node }
       whole = ap (λ (ms : List Msg). intake p ms h) first ∙ taken-is
+
       x : (x : Thread) × (at h.node.threads thread ≡ Some x) × (x.process ≡ p)
       x = reply.thread p h n code rest first pair.workers (ring_number pair) k
+
       most : AtMostOne pair.node p (image_here (Events.Intake q) p h)
       most = subst (AtMostOne pair.node p) (sym (ap (λ (ms : List Msg). image_of_intake ms h.side) first ∙ ap (λ (o : Option ℕ). OneSteps.Return (tid (caller_number o)) ∷ []) (reply.caller p h n code rest first pair.workers (ring_number pair) k).found))
-        (ap (λ (z : Thread). z.process) (thread-is pair.node thread x.0 x.1) ∙ x.2)
+          (ap (λ (z : Thread). z.process) (thread-is pair.node thread x.0 x.1) ∙ x.2)

@@ -63,6 +63,7 @@ module _ (t : ℕ) (a : Node) where
     where
       le-trans : {x y z : ℕ} → x ≤ y → y ≤ z → x ≤ z
       le-trans f g = omega (arith, f, g)
+
       awake : IsAwake t up
       awake = Each-map (λ (x : Sleeper). not (x.thread == t) ≡ true) (λ (x : Sleeper). (x.thread == t) ≡ false) (filter (λ x. not (x.thread == t)) a.sleepers) (λ x e. not-true (x.thread == t) e) (each-passes (λ x. not (x.thread == t)) a.sleepers)
 
@@ -85,7 +86,7 @@ module _ (pair : Pair) (c : Coherent pair) (t : Tid) (e : may pair (Events.Inter
 
   rest : is_calling h.side t.0 ≡ false → Coherent (put_here pair p (interrupt_as false t.0 h))
   rest f = coherent-later pair c p there (side_of pair p) (called_back t.0 pair.node) pair.frames pair.free pair.last
-    (keeping-quiet pair c p there (called_back t.0 pair.node) pair.frames pair.last (others-rest f) (back-goes t.0 pair.node) (back-sleeps t.0 pair.node c.sleeping))
+      (keeping-quiet pair c p there (called_back t.0 pair.node) pair.frames pair.last (others-rest f) (back-goes t.0 pair.node) (back-sleeps t.0 pair.node c.sleeping))
 
   -- ---- of a thread that calls
   module _ (f : is_calling h.side t.0 ≡ true) where
@@ -107,7 +108,7 @@ module _ (pair : Pair) (c : Coherent pair) (t : Tid) (e : may pair (Events.Inter
     side-is : post_interrupt r t.0 (thread_of pair.node t.0).place h.side ≡ side
     unfolding post_interrupt
     side-is = ap (λ (y : Caller). record h.side { lwk = record h.side.lwk { callers = put h.side.lwk.callers t.0 (record y { marked = true }) }; to_linux = post r (Interrupt (record { 0 = y.request }) (thread_of pair.node t.0).place) h.side.to_linux })
-      (ap (λ (o : Option Caller). unwrap_or o no_caller) calls.1)
+        (ap (λ (o : Option Caller). unwrap_or o no_caller) calls.1)
 
     abbrev node : Node
     node = moved_to_own t.0 pair.node
@@ -138,45 +139,46 @@ module _ (pair : Pair) (c : Coherent pair) (t : Tid) (e : may pair (Events.Inter
     held-same : (d : ℕ) → holders d side ≡ holders d h.side
     unfolding counts
     held-same d =
-      let a = total-put-by (counts d side) h.side.lwk.callers t.0 marked in
-      let b = ap (counted_at (counts d side) t.0) calls.1 in
-      let z = entries-same (counts d side) (counts d h.side) h.side.lwk.callers (λ u x e. ap (λ s. cond (is_number d (description_held s)) 1 0) (same-status x.request)) in
-      omega (arith, a, b, z)
+        let a = total-put-by (counts d side) h.side.lwk.callers t.0 marked in
+        let b = ap (counted_at (counts d side) t.0) calls.1 in
+        let z = entries-same (counts d side) (counts d h.side) h.side.lwk.callers (λ u x e. ap (λ s. cond (is_number d (description_held s)) 1 0) (same-status x.request)) in
+        omega (arith, a, b, z)
 
     calls-hold : CallsHold side
     calls-hold u x e =
-      let m = marked-was (at h.side.book.rows) (at h.side.lwk.callers) h.side.book.next h.side.to_lwk t.0 calls.0 calls.1 u x (sym (ap (λ (o : ℕ → Option Caller). o u) (reads-put h.side.lwk.callers t.0 marked)) ∙ e) in
-      subst StatusHolds (sym (same-status x.request)) (subst (λ (v : ℕ). StatusHolds (status_of h.side v)) m.2 (c.calls p u m.0 m.1))
+        let m = marked-was (at h.side.book.rows) (at h.side.lwk.callers) h.side.book.next h.side.to_lwk t.0 calls.0 calls.1 u x (sym (ap (λ (o : ℕ → Option Caller). o u) (reads-put h.side.lwk.callers t.0 marked)) ∙ e) in
+        subst StatusHolds (sym (same-status x.request)) (subst (λ (v : ℕ). StatusHolds (status_of h.side v)) m.2 (c.calls p u m.0 m.1))
 
     whole : interrupt_as true t.0 h ≡ record h { side = side; node = node }
     whole = ap (λ (s : Side). record h { side = s; node = node }) side-is
 
     own : OfProcess p side node pair.workers (ring_number pair)
     own = subst (λ (y : Here). OfProcess p y.side y.node pair.workers (ring_number pair)) whole
-      (subst (λ b. OfProcess p (interrupt_as b t.0 h).side (interrupt_as b t.0 h).node pair.workers (ring_number pair)) f (keeps_interrupt p t h allowed pair.workers (node-holds pair.node (sound-of pair c)) (rings-hold pair c p there) (c.whole p)))
+        (subst (λ b. OfProcess p (interrupt_as b t.0 h).side (interrupt_as b t.0 h).node pair.workers (ring_number pair)) f (keeps_interrupt p t h allowed pair.workers (node-holds pair.node (sound-of pair c)) (rings-hold pair c p there) (c.whole p)))
 
     keeping : Keeping pair c p there side node pair.frames pair.free pair.last
     keeping =
-      let stays = goes-stays pair.node node goes.goes in
-      record {
-        own = own;
-        others = λ x d. subst (λ b. OfProcess x (side_of pair x) (interrupt_as b t.0 h).node pair.workers (ring_number pair)) f (others_interrupt p t h allowed x (side_of pair x) pair.workers (ring_number pair) (c.whole x));
-        framed = own-frames pair c p;
-        rows_below = c.counted.rows_below p;
-        free_below = c.counted.free_below;
-        counted = refl;
-        frame_count = goes.goes.frames;
-        made = same-made pair.node node stays;
-        ended_others = λ x d g. sym (same-ended pair.node node stays x) ∙ g;
-        ended_own = λ g. absurd (let a = there-open pair.node p there in let b = sym (same-ended pair.node node stays p) ∙ g in grind (arith, a, b));
-        rings = length-post r message h.side.to_linux (ring-there h t.0 (rings-hold pair c p there));
-        turns = λ x u. (u, refl);
-        ends = λ t e i u. ap (λ (g : Files). pipe_end g (service_of (side_of pair t.process).linux.services t.request).progress) goes.goes.files ∙ u;
-        held = λ d. (let a = held-same d in let b = ap (λ (g : Files). (description_of g d).calls) goes.goes.files in omega (arith, a, b));
-        calls = calls-hold;
-        sound = goes-sound pair.node node goes.goes (sound-of pair c) (sleeping-after t.0 pair.node node goes awake c.sleeping);
-        paid = (let a = stopped-less pair.node node goes.goes in let b = same-instructions pair.node node goes.goes in let d = goes.goes.next in omega (arith, a, b, d));
-        limit = (let a = same-instructions pair.node node goes.goes in let b = goes.goes.limit in let d = c.numbers.limit in omega (arith, a, b, d)) }
+        let stays = goes-stays pair.node node goes.goes in
+        record {
+          own = own;
+          others = λ x d. subst (λ b. OfProcess x (side_of pair x) (interrupt_as b t.0 h).node pair.workers (ring_number pair)) f (others_interrupt p t h allowed x (side_of pair x) pair.workers (ring_number pair) (c.whole x));
+          framed = own-frames pair c p;
+          rows_below = c.counted.rows_below p;
+          free_below = c.counted.free_below;
+          counted = refl;
+          frame_count = goes.goes.frames;
+          made = same-made pair.node node stays;
+          ended_others = λ x d g. sym (same-ended pair.node node stays x) ∙ g;
+          ended_own = λ g. absurd (let a = there-open pair.node p there in let b = sym (same-ended pair.node node stays p) ∙ g in grind (arith, a, b));
+          rings = length-post r message h.side.to_linux (ring-there h t.0 (rings-hold pair c p there));
+          turns = λ x u. (u, refl);
+          ends = λ t e i u. ap (λ (g : Files). pipe_end g (service_of (side_of pair t.process).linux.services t.request).progress) goes.goes.files ∙ u;
+          held = λ d. (let a = held-same d in let b = ap (λ (g : Files). (description_of g d).calls) goes.goes.files in omega (arith, a, b));
+          calls = calls-hold;
+          sound = goes-sound pair.node node goes.goes (sound-of pair c) (sleeping-after t.0 pair.node node goes awake c.sleeping);
+          paid = (let a = stopped-less pair.node node goes.goes in let b = same-instructions pair.node node goes.goes in let d = goes.goes.next in omega (arith, a, b, d));
+          limit = (let a = same-instructions pair.node node goes.goes in let b = goes.goes.limit in let d = c.numbers.limit in omega (arith, a, b, d));
+        }
 
     mark : Coherent (put_here pair p (interrupt_as true t.0 h))
     mark = subst (λ (y : Here). Coherent (put_here pair p y)) (sym whole) (coherent-later pair c p there side node pair.frames pair.free pair.last keeping)
@@ -194,9 +196,11 @@ module _ (pair : Pair) (c : Coherent pair) (t : Tid) (e : may pair (Events.Inter
       most : (b : Bool) → AtMostOne pair.node p (image_of_interrupt b t.0)
       most true = refl
       most false = refl
+
       unborn : (b : Bool) → (interrupt_as b t.0 h).born ≡ None
       unborn true = refl
       unborn false = refl
+
       same : (b : Bool) (s : Side) → shown_own (interrupt_as b t.0 h).frames s ≡ shown_own pair.frames s
       same true s = refl
       same false s = refl

@@ -81,14 +81,14 @@ module _ (pair : Pair) (c : Coherent pair) (p : ℕ) (there : is_there pair.node
 
     row-below : (q i : ℕ) (r : Row) → table_of later q i ≡ Some r → r.0.0 < node.frame_count
     row-below q i r e = subst (λ (n : ℕ). r.0.0 < n) (sym k.frame_count)
-      (by-side (λ x (s : Side). at s.lwk.table i ≡ Some r → r.0.0 < pair.node.frame_count) (k.rows_below i r) (λ x n f. c.counted.rows_below x i r f) q e)
+        (by-side (λ x (s : Side). at s.lwk.table i ≡ Some r → r.0.0 < pair.node.frame_count) (k.rows_below i r) (λ x n f. c.counted.rows_below x i r f) q e)
 
     turns-hold : TurnsHold later
     turns-hold e t i =
-      let h = c.turns e t i in
-      let a = by-side (λ q (s : Side). waits_or_held (state_of (side_of pair q).book t.request) ≡ true → (waits_or_held (state_of s.book t.request) ≡ true) × ((service_of s.linux.services t.request).progress ≡ (service_of (side_of pair q).linux.services t.request).progress))
+        let h = c.turns e t i in
+        let a = by-side (λ q (s : Side). waits_or_held (state_of (side_of pair q).book t.request) ≡ true → (waits_or_held (state_of s.book t.request) ≡ true) × ((service_of s.linux.services t.request).progress ≡ (service_of (side_of pair q).linux.services t.request).progress))
         (k.turns t.request) (λ q n u. (u, refl)) t.process h.waits in
-      record { waits = a.0; own = ap (pipe_end node.files) a.1 ∙ k.ends t e i h.own }
+        record { waits = a.0; own = ap (pipe_end node.files) a.1 ∙ k.ends t e i h.own }
 
     each-rings : (q : ℕ) (s : Side) → at later.sides q ≡ Some s → length s.to_linux ≡ pair.rings
     each-rings q s e = go (q == p) (sym (at-put pair.sides p side q) ∙ e)
@@ -111,14 +111,19 @@ module _ (pair : Pair) (c : Coherent pair) (p : ℕ) (there : is_there pair.node
       counted = record {
         rows_below = row-below;
         free_below = λ f l. subst (λ (n : ℕ). f < n) (sym k.frame_count) (k.free_below f l);
-        counted = (let a = sum-sides (λ (s : Side). count s.lwk.table) in let b = k.counted in let d = c.counted.counted in let e = k.frame_count in omega (arith, a, b, d, e)) };
+        counted = (let a = sum-sides (λ (s : Side). count s.lwk.table) in let b = k.counted in let d = c.counted.counted in let e = k.frame_count in omega (arith, a, b, d, e));
+      };
       ended = by-side (λ q s. is_ended node q ≡ true → Empty s) k.ended_own (λ q n e. c.ended q (k.ended_others q n e));
       turns = turns-hold;
       rings = record { cores = c.rings.cores; rings = c.rings.rings; each = each-rings };
       held = λ d. (let a = sum-sides (holders d) in let b = k.held d in let e = c.held d in omega (arith, a, b, e));
       calls = by-side (λ q s. CallsHold s) k.calls (λ q n. c.calls q);
       known = record { threads_below = k.sound.threads_below; threads_there = k.sound.threads_there; processes_below = k.sound.processes_below; sides_are = sides-are };
-      sleeping = k.sound.sleeping; places = k.sound.places; heaps = k.sound.heaps;
+      sleeping = k.sound.sleeping;
+      places = k.sound.places;
+      heaps = k.sound.heaps;
       numbers = record {
         paid = (let a = sum-sides (λ (s : Side). s.book.next - 1) in let b = k.paid in let d = c.numbers.paid in let e = stopped-total pair.node.threads in let f = stopped-total node.threads in omega (arith, a, b, d, e, f));
-        limit = k.limit } }
+        limit = k.limit;
+      };
+    }

@@ -34,15 +34,15 @@ module _ (pair : Pair) (c : Coherent pair) (p : ℕ) where
       differ : (j : ℕ) (x : Row) → at (side_of pair p).lwk.table j ≡ Some x → (b : Bool) → (r.0.0 == x.0.0) ≡ b → b ≡ false
       differ j x f false g = refl
       differ j x f true g =
-        let s : r.0.0 ≡ x.0.0 = grind (arith, nat_tests, g) in
-        absurd (n (sym (c.frames.apart q i r p j x e f (λ k. record { 0 = s k })).0))
+          let s : r.0.0 ≡ x.0.0 = grind (arith, nat_tests, g) in
+          absurd (n (sym (c.frames.apart q i r p j x e f (λ k. record { 0 = s k })).0))
 
   pub other-shown : (m : Memory) (q : ℕ) (s : Side) → (q == p) ≡ false → at pair.sides q ≡ Some s → shown_own (written_back (side_of pair p).lwk.table m pair.frames) s ≡ shown_own pair.frames s
   other-shown m q s n e =
-    let f = ap (λ (o : Option Side). at (unwrap_or o (new_side 0)).lwk.table) e in
-    let a = each-same (shown_row (written_back (side_of pair p).lwk.table m pair.frames)) (shown_row pair.frames) s.lwk.table (λ i r g.
+      let f = ap (λ (o : Option Side). at (unwrap_or o (new_side 0)).lwk.table) e in
+      let a = each-same (shown_row (written_back (side_of pair p).lwk.table m pair.frames)) (shown_row pair.frames) s.lwk.table (λ i r g.
       (let b = ap (λ (o : Option (List ℕ)). unwrap_or o zero_page) (other-frame m q i r (λ z. grind (arith, nat_tests, n, z)) (ap (λ (t : Reads Row). t i) f ∙ g)) in λ k. record { rights = r.1; bytes = b k })) in
-    λ i. record { memory = a i; calls = each (shown_call s) s.lwk.callers }
+      λ i. record { memory = a i; calls = each (shown_call s) s.lwk.callers }
 
   -- the tables as one of them
   pub own-table : with_table (table_of pair) p (at (side_of pair p).lwk.table) ≡ table_of pair
@@ -61,7 +61,8 @@ module _ (pair : Pair) (c : Coherent pair) (p : ℕ) where
 module _ (pair : Pair) (c : Coherent pair) (p : ℕ) (there : is_there pair.node p ≡ true) (node : Node) (frames : Map (List ℕ)) (last : Map ℕ) where
   pub keeping-quiet : ((q : ℕ) → OfProcess q (side_of pair q) node pair.workers (ring_number pair)) → Goes pair.node node → Sleeping node → Keeping pair c p there (side_of pair p) node frames pair.free last
   keeping-quiet whole g sleep = record {
-    own = whole p; others = λ q n. whole q;
+    own = whole p;
+    others = λ q n. whole q;
     framed = own-frames pair c p;
     rows_below = c.counted.rows_below p;
     free_below = c.counted.free_below;
@@ -77,7 +78,8 @@ module _ (pair : Pair) (c : Coherent pair) (p : ℕ) (there : is_there pair.node
     calls = c.calls p;
     sound = goes-sound pair.node node g (sound-of pair c) sleep;
     paid = (let a = stopped-less pair.node node g in let b = same-instructions pair.node node g in let n = g.next in omega (arith, a, b, n));
-    limit = (let a = same-instructions pair.node node g in let b = g.limit in let d = c.numbers.limit in omega (arith, a, b, d)) }
+    limit = (let a = same-instructions pair.node node g in let b = g.limit in let d = c.numbers.limit in omega (arith, a, b, d));
+  }
 
 -- sleeping after a step that t awake makes
 pub sleeping-after : (t : ℕ) (a b : Node) → GoesAwake t a b → IsAwake t a → Sleeping a → Sleeping b

@@ -84,11 +84,15 @@ module _ (pair : Pair) (c : Coherent pair) (q : Pid) (e : may pair (Events.Reap 
 
   empty : Empty side
   empty = record {
-    table = refl; mirror = refl;
+    table = refl;
+    mirror = refl;
     pins = same_rows old.linux.pins no_rows (λ v. reaping.no-pinned p q h allowed refl pair.workers (ring_number pair) (c.whole p) v ∙ sym (at-none v));
-    round = m.round; to_linux = m.to_linux; to_lwk = m.to_lwk;
+    round = m.round;
+    to_linux = m.to_linux;
+    to_lwk = m.to_lwk;
     noted = same_rows old.lwk.noted no_rows (λ v. none-noted v ∙ sym (at-none v));
-    workers = same_rows old.linux.workers no_rows (λ v. reaping.no-worker p q h allowed refl pair.workers (ring_number pair) (c.whole p) v ∙ sym (at-none v)) }
+    workers = same_rows old.linux.workers no_rows (λ v. reaping.no-worker p q h allowed refl pair.workers (ring_number pair) (c.whole p) v ∙ sym (at-none v));
+  }
 
   -- descriptions that calls hold stay
   carried : Carries None None pair.node.files.descriptions (close_all p pair.node.files).descriptions
@@ -152,7 +156,8 @@ module _ (pair : Pair) (c : Coherent pair) (q : Pid) (e : may pair (Events.Reap 
     calls = c.calls p;
     sound = goes.sound;
     paid = (let a = goes.paid in let b = goes.numbers in let d = closed-stops pair.node p sound in let f = goes.instructions in let g = closed-instructions pair.node p sound in omega (arith, a, b, d, f, g));
-    limit = (let a = goes.instructions in let b = closed-instructions pair.node p sound in let d = goes.limit in let f = c.numbers.limit in omega (arith, a, b, d, f)) }
+    limit = (let a = goes.instructions in let b = closed-instructions pair.node p sound in let d = goes.limit in let f = c.numbers.limit in omega (arith, a, b, d, f));
+  }
 
   pub coherent_reap : Coherent (after pair (Events.Reap q))
   unfolding reap
@@ -161,4 +166,4 @@ module _ (pair : Pair) (c : Coherent pair) (q : Pid) (e : may pair (Events.Reap 
   pub simulated_pair_reap : SimulatedPair pair (Events.Reap q)
   unfolding reap
   simulated_pair_reap = simulated-pair pair p (has-side pair c.known p there) (Events.Reap q) refl
-    (simulated_reap p q h allowed refl pair.workers (ring_number pair) (c.whole p) refl) refl refl (λ x s n f. refl)
+      (simulated_reap p q h allowed refl pair.workers (ring_number pair) (c.whole p) refl) refl refl (λ x s n f. refl)

@@ -44,11 +44,12 @@ module _ (pair : Pair) (c : Coherent pair) (k : ℕ) (e : may pair (Events.Scrip
   goes : GoesAwake none pair.node node
   goes = script-closed none (GoesAwake none) (GoesOn none) (goes-closed none) k pair.node (λ a unsent. record {
     goes = record { rows = λ u y f. (y, f, refl, refl, λ s. s); processes = λ q. refl; next = refl; frames = refl; limit = refl; files = refl };
-    sleep = λ w s o. (w, s, o) })
+    sleep = λ w s o. (w, s, o);
+  })
 
   pub coherent_script : Coherent (after pair (Events.Script k))
   coherent_script = coherent-later pair c p there (side_of pair p) node pair.frames pair.free pair.last
-    (keeping-quiet pair c p there node pair.frames pair.last
+      (keeping-quiet pair c p there node pair.frames pair.last
       (λ q. keeps_script p k h q (side_of pair q) pair.workers (ring_number pair) (c.whole q)) goes.goes (sleeping-after none pair.node node goes awake c.sleeping))
 
   pub simulated_pair_script : SimulatedPair pair (Events.Script k)

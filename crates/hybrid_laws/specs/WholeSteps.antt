@@ -72,10 +72,10 @@ module _ (pair : Pair) (p : ℕ) (present : at pair.sides p ≡ Some (side_of pa
       by-born : (o : Option (ℕ × Side)) → h.born ≡ o → one (put_here pair p h) ≡ put_one_here (one pair) p (shown_here h)
       by-born None e = one-put h e others
       by-born (Some b) e =
-        let a = owns b in
-        let f = ap (λ (o : Option (ℕ × Side)). each (shown_own h.frames) (with_born (put pair.sides p h.side) o)) e ∙ a
-            ∙ ap (λ (o : Option (ℕ × Side)). (put_one_here (one pair) p (record (shown_here h) { born = shown_born h.frames o })).own) (sym e) in
-        λ i. record { own = f i; node = h.node; free = length h.free }
+          let a = owns b in
+          let f = ap (λ (o : Option (ℕ × Side)). each (shown_own h.frames) (with_born (put pair.sides p h.side) o)) e ∙ a
+          ∙ ap (λ (o : Option (ℕ × Side)). (put_one_here (one pair) p (record (shown_here h) { born = shown_born h.frames o })).own) (sym e) in
+          λ i. record { own = f i; node = h.node; free = length h.free }
 
   -- a process put back as it was
   pub put-same : put_one_here (one pair) p (shown_here (here pair p)) ≡ one pair

@@ -53,7 +53,8 @@ use Rattle.std.specs.Prelude.{Bool, List, None, Option, Some, cond, false, lengt
 module _ (pair : Pair) (c : Coherent pair) (p : ℕ) (there : is_there pair.node p ≡ true) (node : Node) (frames : Map (List ℕ)) (last : Map ℕ) where
   pub keeping-steps : ((q : ℕ) → OfProcess q (side_of pair q) node pair.workers (ring_number pair)) → NodeSteps pair.node node → Keeping pair c p there (side_of pair p) node frames pair.free last
   keeping-steps whole s = record {
-    own = whole p; others = λ q n. whole q;
+    own = whole p;
+    others = λ q n. whole q;
     framed = own-frames pair c p;
     rows_below = c.counted.rows_below p;
     free_below = c.counted.free_below;
@@ -69,7 +70,8 @@ module _ (pair : Pair) (c : Coherent pair) (p : ℕ) (there : is_there pair.node
     calls = c.calls p;
     sound = s.sound;
     paid = (let a = s.paid in let n = s.numbers in let b = s.instructions in omega (arith, a, n, b));
-    limit = (let a = s.instructions in let b = s.limit in let d = c.numbers.limit in omega (arith, a, b, d)) }
+    limit = (let a = s.instructions in let b = s.limit in let d = c.numbers.limit in omega (arith, a, b, d));
+  }
 
 module _ (pair : Pair) (c : Coherent pair) (t : Tid) (e : may pair (Events.Trap t) ≡ true) where
   abbrev p : ℕ
@@ -103,8 +105,8 @@ module _ (pair : Pair) (c : Coherent pair) (t : Tid) (e : may pair (Events.Trap 
   module _ (v : View) (is : trap t.0 (length pair.free) (view_here h) ≡ Done v) where
     done-whole : (q : ℕ) → OfProcess q (side_of pair q) v.node pair.workers (ring_number pair)
     done-whole q =
-      let x = may-traps pair.node t.0 allowed in
-      node-keeps q (trap_free t.0 pair.node) (side_of pair q) pair.node v.node pair.workers (ring_number pair)
+        let x = may-traps pair.node t.0 allowed in
+        node-keeps q (trap_free t.0 pair.node) (side_of pair q) pair.node v.node pair.workers (ring_number pair)
         (subst (TrappedKeeps q (trap_free t.0 pair.node) pair.node) is (trap-keeps q (trap_free t.0 pair.node) t.0 free-own (length pair.free) (view_here h) (sleepers-free t.0 pair.node c.sleeping) (next-new pair.node nodes)))
         (trap-idle q t.0 pair.node x.thread x.there (let s = x.stopped in rw s refl)) (c.whole q)
       where
@@ -121,15 +123,15 @@ module _ (pair : Pair) (c : Coherent pair) (t : Tid) (e : may pair (Events.Trap 
     pub coherent_trap_done : Coherent (after pair (Events.Trap t))
     unfolding after_trap
     coherent_trap_done = subst (λ (y : Trapped). Coherent (put_here pair p (ran_last t.0 (trapped p t.0 y h)))) (sym is)
-      (coherent-later pair c p there (side_of pair p) v.node done.frames pair.free last
+        (coherent-later pair c p there (side_of pair p) v.node done.frames pair.free last
         (keeping-steps pair c p there v.node done.frames last done-whole (subst (TrappedSteps t.0 pair.node) is steps)))
 
     pub simulated_pair_trap_done : SimulatedPair pair (Events.Trap t)
     unfolding after_trap
     simulated_pair_trap_done = simulated-pair pair p (has-side pair c.known p there) (Events.Trap t) refl
-      (simulated_trap p t h allowed refl nodes pair.workers (c.whole p) (table_of pair) (own-frames pair c p) refl) refl
-      (ap (λ (y : Trapped). (trapped p t.0 y h).born) is)
-      (λ q s n f. ap (λ (y : Trapped). shown_own (trapped p t.0 y h).frames s) is ∙ other-shown pair c p (stored_all v.stores (memory_here h)) q s n f)
+        (simulated_trap p t h allowed refl nodes pair.workers (c.whole p) (table_of pair) (own-frames pair c p) refl) refl
+        (ap (λ (y : Trapped). (trapped p t.0 y h).born) is)
+        (λ q s n f. ap (λ (y : Trapped). shown_own (trapped p t.0 y h).frames s) is ∙ other-shown pair c p (stored_all v.stores (memory_here h)) q s n f)
 
   -- ---- a delegated call begins
   module _ (new_node : Node) (progress : Progress) (is : trap t.0 (length pair.free) (view_here h) ≡ Begins new_node progress) where
@@ -182,12 +184,12 @@ module _ (pair : Pair) (c : Coherent pair) (t : Tid) (e : may pair (Events.Trap 
     own-status : status_of side old.book.next ≡ Active (first_progress call)
     unfolding begin_call
     own-status = ap (λ (m : Reads (ReqState × Call)). status_by m (at old.linux.services) (at old.linux.workers) (post (ring_of h t.0) (Request call) old.to_linux) old.to_lwk old.book.next) (reads-put old.book.rows old.book.next (Posted, call))
-      ∙ call_shown.status-own p old pair.node pair.workers (ring_number pair) k (ring_of h t.0) t.0 progress
+        ∙ call_shown.status-own p old pair.node pair.workers (ring_number pair) k (ring_of h t.0) t.0 progress
 
     same-status : (u : ℕ) (y : Caller) → at old.lwk.callers u ≡ Some y → status_of side y.request ≡ status_of old y.request
     unfolding begin_call
     same-status u y f = ap (λ (m : Reads (ReqState × Call)). status_by m (at old.linux.services) (at old.linux.workers) (post (ring_of h t.0) (Request call) old.to_linux) old.to_lwk y.request) (reads-put old.book.rows old.book.next (Posted, call))
-      ∙ call_shown.status-other p old pair.node pair.workers (ring_number pair) k (ring_of h t.0) t.0 progress u y f
+        ∙ call_shown.status-other p old pair.node pair.workers (ring_number pair) k (ring_of h t.0) t.0 progress u y f
 
     abbrev counts : ℕ → Side → ℕ × Caller → ℕ
     counts d s y = cond (is_number d (description_held (status_of s y.1.request))) 1 0
@@ -195,16 +197,16 @@ module _ (pair : Pair) (c : Coherent pair) (t : Tid) (e : may pair (Events.Trap 
     held-same : (d : ℕ) → holders d side ≡ holders d old
     unfolding begin_call
     held-same d =
-      let a = total-put-by (counts d side) old.lwk.callers t.0 caller in
-      let b = ap (counted_at (counts d side) t.0) idle in
-      let z : counts d side (t.0, caller) ≡ 0 = ap (λ s. cond (is_number d (description_held s)) 1 0) own-status in
-      let w = entries-same (counts d side) (counts d old) old.lwk.callers (λ u y f. ap (λ s. cond (is_number d (description_held s)) 1 0) (same-status u y f)) in
-      omega (arith, a, b, z, w)
+        let a = total-put-by (counts d side) old.lwk.callers t.0 caller in
+        let b = ap (counted_at (counts d side) t.0) idle in
+        let z : counts d side (t.0, caller) ≡ 0 = ap (λ s. cond (is_number d (description_held s)) 1 0) own-status in
+        let w = entries-same (counts d side) (counts d old) old.lwk.callers (λ u y f. ap (λ s. cond (is_number d (description_held s)) 1 0) (same-status u y f)) in
+        omega (arith, a, b, z, w)
 
     under-way : IsUnderWay (first_progress call)
     under-way =
-      let planned : plan progress.number progress.arguments ≡ Delegated says.1 = ap (λ (y : Progress). plan y.number y.arguments) says.3 ∙ says.2 in
-      subst (λ (is : Plan). IsUnderWay (starting progress.number progress.arguments (phases_in is))) (sym planned) (starts-under-way progress.number progress.arguments says.1 planned)
+        let planned : plan progress.number progress.arguments ≡ Delegated says.1 = ap (λ (y : Progress). plan y.number y.arguments) says.3 ∙ says.2 in
+        subst (λ (is : Plan). IsUnderWay (starting progress.number progress.arguments (phases_in is))) (sym planned) (starts-under-way progress.number progress.arguments says.1 planned)
 
     calls-hold : CallsHold side
     unfolding begin_call
@@ -221,9 +223,9 @@ module _ (pair : Pair) (c : Coherent pair) (t : Tid) (e : may pair (Events.Trap 
         go : (b : Bool) → (q == old.book.next) ≡ b → waits_or_held (state_in (cond b (Some (Posted, call)) (at old.book.rows q))) ≡ true
         go false g = u
         go true g =
-          let y : q ≡ old.book.next = grind (arith, nat_tests, g) in
-          let n = ap (at old.book.rows) y ∙ k.answered.fresh old.book.next (omega arith) in
-          absurd (let w = sym (ap (λ (o : Option (ReqState × Call)). waits_or_held (state_in o)) n) ∙ u in grind (arith, w))
+            let y : q ≡ old.book.next = grind (arith, nat_tests, g) in
+            let n = ap (at old.book.rows) y ∙ k.answered.fresh old.book.next (omega arith) in
+            absurd (let w = sym (ap (λ (o : Option (ReqState × Call)). waits_or_held (state_in o)) n) ∙ u in grind (arith, w))
 
     whole-is : trapped p t.0 (Begins new_node progress) h ≡ record h { side = side; node = node }
     whole-is = λ i. record h { side = side; node = set_does t.0 Called (says.0 i) }
@@ -231,35 +233,36 @@ module _ (pair : Pair) (c : Coherent pair) (t : Tid) (e : may pair (Events.Trap 
     keeping : Keeping pair c p there side node pair.frames pair.free last
     unfolding begin_call
     keeping =
-      let both-steps = steps-then pair.node behind node past begun in
-      record {
-        own = subst (λ (y : Here). OfProcess p y.side y.node pair.workers (ring_number pair)) whole-is (keeps_begins p t.0 h x progress new_node says.0 pair.workers own-process nodes (rings-hold pair c p there) k);
-        others = λ q d. subst (λ (y : Here). OfProcess q (side_of pair q) y.node pair.workers (ring_number pair)) whole-is (others_begins p t.0 h x progress new_node says.0 q (side_of pair q) pair.workers (ring_number pair) (λ f. d (sym own-process ∙ f)) (c.whole q));
-        framed = own-frames pair c p;
-        rows_below = c.counted.rows_below p;
-        free_below = c.counted.free_below;
-        counted = refl;
-        frame_count = both-steps.frames;
-        made = both-steps.made;
-        ended_others = λ q n f. sym (both-steps.ended q) ∙ f;
-        ended_own = λ f. absurd (let a = there-open pair.node p there in let b = sym (both-steps.ended p) ∙ f in grind (arith, a, b));
-        rings = length-post (ring_of h t.0) (Request call) old.to_linux (ring-there h t.0 (rings-hold pair c p there));
-        turns = turns-hold;
-        ends = λ t e i u. ap (λ (f : Files). pipe_end f (service_of (side_of pair t.process).linux.services t.request).progress) both-steps.files ∙ u;
-        held = λ d. (let a = held-same d in let b = ap (λ (f : Files). (description_of f d).calls) both-steps.files in omega (arith, a, b));
-        calls = calls-hold;
-        sound = both-steps.sound;
-        paid = (let a = fewer in let b = past-stops in let d = both-steps.instructions in omega (arith, a, b, d));
-        limit = (let a = both-steps.instructions in let b = both-steps.limit in let d = c.numbers.limit in omega (arith, a, b, d)) }
+        let both-steps = steps-then pair.node behind node past begun in
+        record {
+          own = subst (λ (y : Here). OfProcess p y.side y.node pair.workers (ring_number pair)) whole-is (keeps_begins p t.0 h x progress new_node says.0 pair.workers own-process nodes (rings-hold pair c p there) k);
+          others = λ q d. subst (λ (y : Here). OfProcess q (side_of pair q) y.node pair.workers (ring_number pair)) whole-is (others_begins p t.0 h x progress new_node says.0 q (side_of pair q) pair.workers (ring_number pair) (λ f. d (sym own-process ∙ f)) (c.whole q));
+          framed = own-frames pair c p;
+          rows_below = c.counted.rows_below p;
+          free_below = c.counted.free_below;
+          counted = refl;
+          frame_count = both-steps.frames;
+          made = both-steps.made;
+          ended_others = λ q n f. sym (both-steps.ended q) ∙ f;
+          ended_own = λ f. absurd (let a = there-open pair.node p there in let b = sym (both-steps.ended p) ∙ f in grind (arith, a, b));
+          rings = length-post (ring_of h t.0) (Request call) old.to_linux (ring-there h t.0 (rings-hold pair c p there));
+          turns = turns-hold;
+          ends = λ t e i u. ap (λ (f : Files). pipe_end f (service_of (side_of pair t.process).linux.services t.request).progress) both-steps.files ∙ u;
+          held = λ d. (let a = held-same d in let b = ap (λ (f : Files). (description_of f d).calls) both-steps.files in omega (arith, a, b));
+          calls = calls-hold;
+          sound = both-steps.sound;
+          paid = (let a = fewer in let b = past-stops in let d = both-steps.instructions in omega (arith, a, b, d));
+          limit = (let a = both-steps.instructions in let b = both-steps.limit in let d = c.numbers.limit in omega (arith, a, b, d));
+        }
 
     pub coherent_trap_begins : Coherent (after pair (Events.Trap t))
     unfolding after_trap
     coherent_trap_begins = subst (λ (y : Trapped). Coherent (put_here pair p (ran_last t.0 (trapped p t.0 y h)))) (sym is)
-      (subst (λ (y : Here). Coherent (put_here pair p (ran_last t.0 y))) (sym whole-is) (coherent-later pair c p there side node pair.frames pair.free last keeping))
+        (subst (λ (y : Here). Coherent (put_here pair p (ran_last t.0 y))) (sym whole-is) (coherent-later pair c p there side node pair.frames pair.free last keeping))
 
     pub simulated_pair_trap_begins : SimulatedPair pair (Events.Trap t)
     unfolding after_trap
     simulated_pair_trap_begins = simulated-pair pair p (has-side pair c.known p there) (Events.Trap t) refl
-      (simulated_trap p t h allowed refl nodes pair.workers k (table_of pair) (own-frames pair c p) refl) refl
-      (ap (λ (y : Trapped). (trapped p t.0 y h).born) is)
-      (λ q s n f. ap (λ (y : Trapped). shown_own (trapped p t.0 y h).frames s) is)
+        (simulated_trap p t h allowed refl nodes pair.workers k (table_of pair) (own-frames pair c p) refl) refl
+        (ap (λ (y : Trapped). (trapped p t.0 y h).born) is)
+        (λ q s n f. ap (λ (y : Trapped). shown_own (trapped p t.0 y h).frames s) is)

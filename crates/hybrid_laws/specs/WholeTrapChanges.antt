@@ -109,10 +109,10 @@ module _ (pair : Pair) (c : Coherent pair) (t : Tid) (allowed : may pair (Events
       where
         bound : (y : Process) → at behind.processes p ≡ Some y → e.program_break ≤ y.heap_base + most_heap
         bound y f =
-          let s : process_of behind p ≡ y = ap (λ (o : Option Process). unwrap_or o no_process) f in
-          let l = now.bound (subst (λ (z : Process). z.program_break ≤ z.heap_base + most_heap) (sym s) (past.sound.heaps p y f).below) in
-          let b = ap (λ (z : Process). z.heap_base) s in
-          omega (arith, l, b)
+            let s : process_of behind p ≡ y = ap (λ (o : Option Process). unwrap_or o no_process) f in
+            let l = now.bound (subst (λ (z : Process). z.program_break ≤ z.heap_base + most_heap) (sym s) (past.sound.heaps p y f).below) in
+            let b = ap (λ (z : Process). z.heap_base) s in
+            omega (arith, l, b)
 
     finished : NodeSteps set done
     finished = awake-steps t.0 set done set-sound awake goes
@@ -142,19 +142,20 @@ module _ (pair : Pair) (c : Coherent pair) (t : Tid) (allowed : may pair (Events
       calls = c.calls p;
       sound = finished.sound;
       paid = (let a = finished.paid in let b = finished.numbers in let d = past.paid in let f = past.numbers in let g = finished.instructions in let i = set-instructions behind p e.program_break in let j = past.instructions in omega (arith, a, b, d, f, g, i, j));
-      limit = (let g = finished.instructions in let i = set-instructions behind p e.program_break in let j = past.instructions in let l = finished.limit in let d = c.numbers.limit in omega (arith, g, i, j, l, d)) }
+      limit = (let g = finished.instructions in let i = set-instructions behind p e.program_break in let j = past.instructions in let l = finished.limit in let d = c.numbers.limit in omega (arith, g, i, j, l, d));
+    }
 
     pub coherent_trap_behind : Coherent (after pair (Events.Trap t))
     unfolding after_trap
     coherent_trap_behind = subst (λ (y : Trapped). Coherent (put_here pair p (ran_last t.0 (trapped p t.0 y h)))) (sym is)
-      (coherent-later pair c p there side done sp.frames sp.free last keeping)
+        (coherent-later pair c p there side done sp.frames sp.free last keeping)
 
     pub simulated_pair_trap_behind : SimulatedPair pair (Events.Trap t)
     unfolding after_trap
     simulated_pair_trap_behind = simulated-pair pair p (has-side pair c.known p there) (Events.Trap t) refl
-      (simulated_trap p t h allowed-here refl (node-holds pair.node (sound-of pair c)) pair.workers (c.whole p) (table_of pair) (own-frames pair c p) refl) refl
-      (ap (λ (y : Trapped). (trapped p t.0 y h).born) is)
-      (λ q s n f. ap (λ (y : Trapped). shown_own (trapped p t.0 y h).frames s) is ∙ shown-else pair c p e fits q s n f)
+        (simulated_trap p t h allowed-here refl (node-holds pair.node (sound-of pair c)) pair.workers (c.whole p) (table_of pair) (own-frames pair c p) refl) refl
+        (ap (λ (y : Trapped). (trapped p t.0 y h).born) is)
+        (λ q s n f. ap (λ (y : Trapped). shown_own (trapped p t.0 y h).frames s) is ∙ shown-else pair c p e fits q s n f)
 
   -- whatever node is said to be left
   module _ (node : Node) (is : trap t.0 (length pair.free) (view_here h) ≡ Changes node change) where

@@ -149,21 +149,28 @@ module _ (pair : Pair) (c : Coherent pair) (t : Tid) (e : may pair (Events.Trap 
 
     goes : ForkSteps pair.node v.node
     goes = subst (ForkSteps pair.node) (sym says.node) (record {
-        sound = answers.sound; frames = past.frames; limit = past.limit; descriptions = ap (λ (f : Files). f.descriptions) past.files;
-        instructions = fork-instructions behind past.sound t.0 x' behind-there says.flags says.stack says.tls says.child_tid awake stopped ∙ past.instructions;
-        made_others = λ q d. fork-made behind past.sound t.0 x' behind-there says.flags says.stack says.tls says.child_tid q d ∙ past.made q;
-        made_own = fork-there behind past.sound t.0 x' behind-there says.flags says.stack says.tls says.child_tid;
-        ended_others = λ q d. fork-ended behind past.sound t.0 x' behind-there says.flags says.stack says.tls says.child_tid q d ∙ past.ended q;
-        open_own = fork-open behind past.sound t.0 x' behind-there says.flags says.stack says.tls says.child_tid;
-        next = refl;
-        paid = (let a = fork-paid behind past.sound t.0 x' behind-there says.flags says.stack says.tls says.child_tid awake stopped in let b = past.paid in omega (arith, a, b)) })
+      sound = answers.sound;
+      frames = past.frames;
+      limit = past.limit;
+      descriptions = ap (λ (f : Files). f.descriptions) past.files;
+      instructions = fork-instructions behind past.sound t.0 x' behind-there says.flags says.stack says.tls says.child_tid awake stopped ∙ past.instructions;
+      made_others = λ q d. fork-made behind past.sound t.0 x' behind-there says.flags says.stack says.tls says.child_tid q d ∙ past.made q;
+      made_own = fork-there behind past.sound t.0 x' behind-there says.flags says.stack says.tls says.child_tid;
+      ended_others = λ q d. fork-ended behind past.sound t.0 x' behind-there says.flags says.stack says.tls says.child_tid q d ∙ past.ended q;
+      open_own = fork-open behind past.sound t.0 x' behind-there says.flags says.stack says.tls says.child_tid;
+      next = refl;
+      paid = (let a = fork-paid behind past.sound t.0 x' behind-there says.flags says.stack says.tls says.child_tid awake stopped in let b = past.paid in omega (arith, a, b));
+    })
       where
         x' : Thread
         x' = record x.thread { regs = set_pc (x.thread.regs.pc + 4) x.thread.regs }
+
         behind-there : at behind.threads t.0 ≡ Some x'
         behind-there = past-there t.0 (view_here h) (sound-of pair c) x.thread x.there x.stop x.stopped
+
         stopped : is_stopped x'.does ≡ true
         stopped = ap is_stopped x.stopped
+
         answers : NodeSteps (with_child t.0 n says.flags says.stack says.tls says.child_tid behind) (left_by_fork behind past.sound t.0 x' behind-there says.flags says.stack says.tls says.child_tid)
         answers = fork-answers behind past.sound t.0 x' behind-there says.flags says.stack says.tls says.child_tid awake stopped
 
@@ -178,8 +185,8 @@ module _ (pair : Pair) (c : Coherent pair) (t : Tid) (e : may pair (Events.Trap 
 
     others-whole : (q : ℕ) → q ≢ n → OfProcess q (side_of pair q) v.node pair.workers (ring_number pair)
     others-whole q d =
-      let x = may-traps pair.node t.0 allowed in
-      node-keeps q (trap_free t.0 pair.node) (side_of pair q) pair.node v.node pair.workers (ring_number pair)
+        let x = may-traps pair.node t.0 allowed in
+        node-keeps q (trap_free t.0 pair.node) (side_of pair q) pair.node v.node pair.workers (ring_number pair)
         (subst (TrappedKeeps q (trap_free t.0 pair.node) pair.node) is (trap-keeps q (trap_free t.0 pair.node) t.0 free-own (length pair.free) (view_here h) (sleepers-free t.0 pair.node c.sleeping) (next-new pair.node nodes)) d)
         (trap-idle q t.0 pair.node x.thread x.there (let s = x.stopped in rw s refl)) (c.whole q)
       where
@@ -199,8 +206,8 @@ module _ (pair : Pair) (c : Coherent pair) (t : Tid) (e : may pair (Events.Trap 
 
     below : Below pair.node.frame_count copied
     below = below-copied (table_of pair) n pair.node.frame_count (forks.pages p t.0 h v n stores says (table_of pair) (own-frames pair c p) other refl) (forks.begins p t.0 h v n stores says (table_of pair) (own-frames pair c p) other refl)
-      (forks.enough p t.0 h v n stores says (table_of pair) (own-frames pair c p) other refl)
-      (record { rows = λ i r f. absurd (let a = sym (at-none {V = Row} i) ∙ f in grind (arith, a)); free = c.counted.free_below })
+        (forks.enough p t.0 h v n stores says (table_of pair) (own-frames pair c p) other refl)
+        (record { rows = λ i r f. absurd (let a = sym (at-none {V = Row} i) ∙ f in grind (arith, a)); free = c.counted.free_below })
 
     keeping : KeepingBorn pair c n absent side v.node frames' copied.free last
     keeping = record {
@@ -210,10 +217,10 @@ module _ (pair : Pair) (c : Coherent pair) (t : Tid) (e : may pair (Events.Trap 
       rows_below = below.rows;
       free_below = below.free;
       counted = (let a = length_copied (table_of pair) n (forks.pages p t.0 h v n stores says (table_of pair) (own-frames pair c p) other refl) (forks.begins p t.0 h v n stores says (table_of pair) (own-frames pair c p) other refl) (forks.enough p t.0 h v n stores says (table_of pair) (own-frames pair c p) other refl) in
-        let b = count-each (shown_row copied.frames) copied.table in
-        let d = ap count (forks.copied-shown p t.0 h v n stores says (table_of pair) (own-frames pair c p) other refl) in
-        let f = finmap.len-entries (shown_memory (side_of pair p).lwk.table (forks.frames1 p t.0 h v n stores says (table_of pair) (own-frames pair c p) other refl)) in
-        omega (arith, a, b, d, f));
+          let b = count-each (shown_row copied.frames) copied.table in
+          let d = ap count (forks.copied-shown p t.0 h v n stores says (table_of pair) (own-frames pair c p) other refl) in
+          let f = finmap.len-entries (shown_memory (side_of pair p).lwk.table (forks.frames1 p t.0 h v n stores says (table_of pair) (own-frames pair c p) other refl)) in
+          omega (arith, a, b, d, f));
       frame_count = goes.frames;
       made_others = λ q d. goes.made_others q (apart q d);
       made_own = goes.made_own;
@@ -225,7 +232,8 @@ module _ (pair : Pair) (c : Coherent pair) (t : Tid) (e : may pair (Events.Trap 
       calls = λ t x f. absurd (let a = sym (at-none {V = Caller} t) ∙ f in grind (arith, a));
       sound = goes.sound;
       paid = (let a = goes.paid in let b = goes.next in let d = goes.instructions in omega (arith, a, b, d));
-      limit = (let a = goes.instructions in let b = goes.limit in let d = c.numbers.limit in omega (arith, a, b, d)) }
+      limit = (let a = goes.instructions in let b = goes.limit in let d = c.numbers.limit in omega (arith, a, b, d));
+    }
       where
         ends-stay : (o : Option ℕ) (x : ℕ) → end_of_found pair.node.files o ≡ Some x → end_of_found v.node.files o ≡ Some x
         ends-stay None x u = u
@@ -242,7 +250,7 @@ module _ (pair : Pair) (c : Coherent pair) (t : Tid) (e : may pair (Events.Trap 
     after-is : after pair (Events.Trap t) ≡ left_with pair n side v.node frames' copied.free last
     unfolding after_trap
     after-is = ap (λ (y : Trapped). put_here pair p (ran_last t.0 (trapped p t.0 y h))) is
-      ∙ ap (λ (m : Map Side). record (left_with pair n side v.node frames' copied.free last) { sides = put m n side }) put-back
+        ∙ ap (λ (m : Map Side). record (left_with pair n side v.node frames' copied.free last) { sides = put m n side }) put-back
 
     pub coherent_trap_born : Coherent (after pair (Events.Trap t))
     coherent_trap_born = subst Coherent (sym after-is) (coherent-born pair c n absent side v.node frames' copied.free last keeping)
@@ -279,7 +287,7 @@ module _ (pair : Pair) (c : Coherent pair) (t : Tid) (e : may pair (Events.Trap 
     others-shown q s o e =
         let f = ap (λ (o : Option Side). at (unwrap_or o (new_side 0)).lwk.table) e in
         let a = each-same (shown_row frames') (shown_row pair.frames) s.lwk.table (λ j r g.
-          (let b = ap (λ (o : Option (List ℕ)). unwrap_or o zero_page) (frame-stays q j r (not-n (q == n) refl) o (ap (λ (t : Reads Row). t j) f ∙ g)) in λ k. record { rights = r.1; bytes = b k })) in
+        (let b = ap (λ (o : Option (List ℕ)). unwrap_or o zero_page) (frame-stays q j r (not-n (q == n) refl) o (ap (λ (t : Reads Row). t j) f ∙ g)) in λ k. record { rights = r.1; bytes = b k })) in
         λ i. record { memory = a i; calls = each (shown_call s) s.lwk.callers }
       where
         not-n : (b : Bool) → (q == n) ≡ b → b ≡ false
@@ -289,8 +297,8 @@ module _ (pair : Pair) (c : Coherent pair) (t : Tid) (e : may pair (Events.Trap 
     pub simulated_pair_trap_born : SimulatedPair pair (Events.Trap t)
     unfolding after_trap
     simulated_pair_trap_born = simulated-born pair p (has-side pair c.known p there) (Events.Trap t) refl
-      (simulated_trap p t h allowed refl nodes pair.workers (c.whole p) (table_of pair) (own-frames pair c p) refl) refl
-      (λ q s o f. ap (λ (y : Trapped). shown_own (trapped p t.0 y h).frames s) is ∙ others-shown q s o f)
+        (simulated_trap p t h allowed refl nodes pair.workers (c.whole p) (table_of pair) (own-frames pair c p) refl) refl
+        (λ q s o f. ap (λ (y : Trapped). shown_own (trapped p t.0 y h).frames s) is ∙ others-shown q s o f)
 
   -- whatever number is said to be the new one
   module _ (v : View) (child : ℕ) (stores : List Store) (is : trap t.0 (length pair.free) (view_here h) ≡ Forks v child stores) where

@@ -48,11 +48,11 @@ module _ (pair : Pair) (c : Coherent pair) (t : Tid) (e : may pair (Events.Wait 
 
   awake : IsAwake t.0 pair.node
   awake =
-    let x = thread_of pair.node t.0 in
-    let a = both (is_some (at pair.node.threads t.0) && is_living pair.node x.process) (may_end_wait_of pair.node x.process (wait_of x.does)) allowed in
-    let b = both (is_some (at pair.node.threads t.0)) (is_living pair.node x.process) a.0 in
-    let y = some-is (at pair.node.threads t.0) b.0 in
-    is-awake pair.node t.0 y.0 y.1 (ap (λ (z : Thread). is_asleep z.does) (sym (thread-is pair.node t.0 y.0 y.1)) ∙ go (wait_of x.does) refl a.1) c.sleeping
+      let x = thread_of pair.node t.0 in
+      let a = both (is_some (at pair.node.threads t.0) && is_living pair.node x.process) (may_end_wait_of pair.node x.process (wait_of x.does)) allowed in
+      let b = both (is_some (at pair.node.threads t.0)) (is_living pair.node x.process) a.0 in
+      let y = some-is (at pair.node.threads t.0) b.0 in
+      is-awake pair.node t.0 y.0 y.1 (ap (λ (z : Thread). is_asleep z.does) (sym (thread-is pair.node t.0 y.0 y.1)) ∙ go (wait_of x.does) refl a.1) c.sleeping
     where
       go : (o : Option (ℤ × ℕ)) → wait_of (thread_of pair.node t.0).does ≡ o → may_end_wait_of pair.node (thread_of pair.node t.0).process o ≡ true → is_asleep (thread_of pair.node t.0).does ≡ false
       go None f k = absurd (grind (arith, k))
@@ -71,9 +71,9 @@ module _ (pair : Pair) (c : Coherent pair) (t : Tid) (e : may pair (Events.Wait 
 
   pub coherent_wait : Coherent (after pair (Events.Wait t))
   coherent_wait = coherent-later pair c p there (side_of pair p) node (with_view (waited t.0 (view_here h)) h).frames pair.free pair.last
-    (keeping-quiet pair c p there node (with_view (waited t.0 (view_here h)) h).frames pair.last
+      (keeping-quiet pair c p there node (with_view (waited t.0 (view_here h)) h).frames pair.last
       (λ q. keeps_wait p t h allowed q (side_of pair q) pair.workers (ring_number pair) (c.whole q)) goes.goes (sleeping-after t.0 pair.node node goes awake c.sleeping))
 
   pub simulated_pair_wait : SimulatedPair pair (Events.Wait t)
   simulated_pair_wait = simulated-pair pair p (has-side pair c.known p there) (Events.Wait t) refl (simulated_wait p t h allowed (apart-own pair c p) refl) refl refl
-    (λ q s n f. other-shown pair c p (stored_all (waited t.0 (view_here h)).stores (memory_here h)) q s n f)
+      (λ q s n f. other-shown pair c p (stored_all (waited t.0 (view_here h)).stores (memory_here h)) q s n f)

@@ -24,6 +24,7 @@ apart-less a b e = go (nat_lt b a) refl e
     equal-or : (x : Bool) → is_lt (cond x Equal Greater) ≡ true → ⊥
     equal-or true k = grind (arith, k)
     equal-or false k = grind (arith, k)
+
     go : (x : Bool) → nat_lt b a ≡ x → is_lt (cond x Less (cond (b == a) Equal Greater)) ≡ true → (a == b) ≡ false
     go true f k = grind (arith, nat_tests, f)
     go false f k = absurd (equal-or (b == a) k)
@@ -36,12 +37,15 @@ module _ {V : Type 0} where
   found-each : (es : List (ℕ × V)) → fin.is_sorted nat_cmp es ≡ true → Each (λ (x : ℕ × V). fin.find nat_cmp x.0 es ≡ Some x.1) es
   found-each [] e = tt
   found-each (x ∷ es) e =
-      let a = both (fin.below_all nat_cmp x.0 es) (fin.is_sorted nat_cmp es) e in
-      (own x, Each-map (λ (y : ℕ × V). ((y.0 == x.0) ≡ false) × (fin.find nat_cmp y.0 es ≡ Some y.1)) (λ (y : ℕ × V). fin.find nat_cmp y.0 (x ∷ es) ≡ Some y.1) es later
-        (Each-both (λ (y : ℕ × V). (y.0 == x.0) ≡ false) (λ (y : ℕ × V). fin.find nat_cmp y.0 es ≡ Some y.1) es (below-apart x.0 es a.0) (found-each es a.1)))
+      let a = both (fin.below_all nat_cmp x.0 es) (fin.is_sorted nat_cmp es) e in (
+        own x,
+        Each-map (λ (y : ℕ × V). ((y.0 == x.0) ≡ false) × (fin.find nat_cmp y.0 es ≡ Some y.1)) (λ (y : ℕ × V). fin.find nat_cmp y.0 (x ∷ es) ≡ Some y.1) es later
+            (Each-both (λ (y : ℕ × V). (y.0 == x.0) ≡ false) (λ (y : ℕ × V). fin.find nat_cmp y.0 es ≡ Some y.1) es (below-apart x.0 es a.0) (found-each es a.1)),
+      )
     where
       own : (x : ℕ × V) → cond (eq_by_cmp nat_cmp x.0 x.0) (Some x.1) (fin.find nat_cmp x.0 es) ≡ Some x.1
       own x = ap (λ b. cond b (Some x.1) (fin.find nat_cmp x.0 es)) (unsigned_tied x.0 x.0) ∙ (let s : (x.0 == x.0) ≡ true = grind (arith, nat_tests) in rw s refl)
+
       later : (y : ℕ × V) → ((y.0 == x.0) ≡ false) × (fin.find nat_cmp y.0 es ≡ Some y.1) → cond (eq_by_cmp nat_cmp y.0 x.0) (Some x.1) (fin.find nat_cmp y.0 es) ≡ Some y.1
       later y h = ap (λ b. cond b (Some x.1) (fin.find nat_cmp y.0 es)) (unsigned_tied y.0 x.0 ∙ h.0) ∙ h.1
 
@@ -75,24 +79,27 @@ module _ (table : Map Row) (m : Memory) (apart : (i j : ℕ) (r t : Row) → at 
       go true k = absurd (let a = apart e.0 x.0 e.1 x.1 there h.1 (grind (arith, nat_tests, k)) in grind (arith, nat_tests, a, h.0))
 
   written-row : (es : List (ℕ × Row)) (frames : Map (List ℕ)) (i : ℕ) (r : Row) → fin.is_sorted nat_cmp es ≡ true → Each (λ (e : ℕ × Row). at table e.0 ≡ Some e.1) es → fin.find nat_cmp i es ≡ Some r
-    → frame_bytes (written_rows es m frames) r.0.0 ≡ bytes_in (at m i)
+      → frame_bytes (written_rows es m frames) r.0.0 ≡ bytes_in (at m i)
   written-row [] frames i r s h f = absurd (grind (arith, f))
   written-row (e ∷ es) frames i r s h f = go (i == e.0) refl (sym (ap (λ b. cond b (Some e.1) (fin.find nat_cmp i es)) (unsigned_tied i e.0)) ∙ f) (written-row es (put frames e.1.0.0 (bytes_in (at m e.0))) i r a.1 h.1)
     where
       a : (fin.below_all nat_cmp e.0 es ≡ true) × (fin.is_sorted nat_cmp es ≡ true)
       a = both (fin.below_all nat_cmp e.0 es) (fin.is_sorted nat_cmp es) s
+
       none : Each (λ (x : ℕ × Row). (e.1.0.0 == x.1.0.0) ≡ false) es
       none = Each-map (λ (x : ℕ × Row). ((x.0 == e.0) ≡ false) × (at table x.0 ≡ Some x.1)) (λ (x : ℕ × Row). (e.1.0.0 == x.1.0.0) ≡ false) es (frame-apart e h.0)
-        (Each-both (λ (x : ℕ × Row). (x.0 == e.0) ≡ false) (λ (x : ℕ × Row). at table x.0 ≡ Some x.1) es (below-apart e.0 es a.0) h.1)
+          (Each-both (λ (x : ℕ × Row). (x.0 == e.0) ≡ false) (λ (x : ℕ × Row). at table x.0 ≡ Some x.1) es (below-apart e.0 es a.0) h.1)
+
       kept : frame_bytes (written_rows es m (put frames e.1.0.0 (bytes_in (at m e.0)))) e.1.0.0 ≡ bytes_in (at m e.0)
       kept = ap (λ o. unwrap_or o zero_page) (other-frames es m (put frames e.1.0.0 (bytes_in (at m e.0))) e.1.0.0 none ∙ at-put frames e.1.0.0 (bytes_in (at m e.0)) e.1.0.0)
-        ∙ (let z : (e.1.0.0 == e.1.0.0) ≡ true = grind (arith, nat_tests) in rw z refl)
+          ∙ (let z : (e.1.0.0 == e.1.0.0) ≡ true = grind (arith, nat_tests) in rw z refl)
+
       go : (b : Bool) → (i == e.0) ≡ b → cond b (Some e.1) (fin.find nat_cmp i es) ≡ Some r → (fin.find nat_cmp i es ≡ Some r → frame_bytes (written_rows es m (put frames e.1.0.0 (bytes_in (at m e.0)))) r.0.0 ≡ bytes_in (at m i))
-        → frame_bytes (written_rows es m (put frames e.1.0.0 (bytes_in (at m e.0)))) r.0.0 ≡ bytes_in (at m i)
+          → frame_bytes (written_rows es m (put frames e.1.0.0 (bytes_in (at m e.0)))) r.0.0 ≡ bytes_in (at m i)
       go true k g rest =
-        let x : e.1 ≡ r = cc in
-        let y : i ≡ e.0 = grind (arith, nat_tests, k) in
-        ap (λ (z : Row). frame_bytes (written_rows es m (put frames e.1.0.0 (bytes_in (at m e.0)))) z.0.0) (sym x) ∙ kept ∙ ap (λ (z : ℕ). bytes_in (at m z)) (sym y)
+          let x : e.1 ≡ r = cc in
+          let y : i ≡ e.0 = grind (arith, nat_tests, k) in
+          ap (λ (z : Row). frame_bytes (written_rows es m (put frames e.1.0.0 (bytes_in (at m e.0)))) z.0.0) (sym x) ∙ kept ∙ ap (λ (z : ℕ). bytes_in (at m z)) (sym y)
       go false k g rest = rest g
 
   pub shown_written : (frames : Map (List ℕ)) → SameShape table m → shown_memory table (written_back table m frames) ≡ m
@@ -102,7 +109,7 @@ module _ (table : Map Row) (m : Memory) (apart : (i j : ℕ) (r t : Row) → at 
       go : (i : ℕ) (o : Option Row) → at table i ≡ o → and_then o (λ v. Some (shown_row (written_rows (entries table) m frames) v)) ≡ at m i
       go i None e = sym (h.absent i e)
       go i (Some r) e =
-        let k = h.present i r e in
-        let b = written-row (entries table) frames i r (sorted-true table) (each-entry table) (sym (finmap.get-entries table i) ∙ e) ∙ ap bytes_in k.1 in
-        let t = sym k.2 in
-        (λ j. Some (record { rights = t j; bytes = b j })) ∙ sym k.1
+          let k = h.present i r e in
+          let b = written-row (entries table) frames i r (sorted-true table) (each-entry table) (sym (finmap.get-entries table i) ∙ e) ∙ ap bytes_in k.1 in
+          let t = sym k.2 in
+          (λ j. Some (record { rights = t j; bytes = b j })) ∙ sym k.1

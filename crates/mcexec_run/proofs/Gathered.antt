@@ -105,8 +105,16 @@ has_arguments g h = record { most = h.most; small = h.small }
 
 pub prepared_of : (job : Job) (f : Fetched) → IsJob job → IsFilled f → length f.images ≡ images_in (sources_of job) → IsPrepared (prepared_job job f).job (prepared_job job f).images
 prepared_of job f j filled count = record {
-  frames = j.frames; cores = j.cores; workers = j.workers; rings = j.rings; limit = j.limit; guests = j.guests;
+  frames = j.frames;
+  cores = j.cores;
+  workers = j.workers;
+  rings = j.rings;
+  limit = j.limit;
+  guests = j.guests;
   guest_lines = λ k d h. has_arguments _ (j.guest_lines k d h);
   signal_lines = λ k d h. (let s = j.signal_lines k d h in record { guest = (s.guest, s.most_guest); sig = (s.sig, s.most_sig) });
-  files = filled.files; inputs = filled.inputs;
-  one_each = count ∙ source_images job; loaded = filled.images }
+  files = filled.files;
+  inputs = filled.inputs;
+  one_each = count ∙ source_images job;
+  loaded = filled.images;
+}

@@ -33,7 +33,7 @@ pub data Outcome {W : Type 0} (ready : Result W Status) (SoFar : W → List Even
   Shown : (w : W) (text : List ℕ) → ready ≡ Ok w → Shows w status journal text → Takes old text new → Outcome ready SoFar Shows status journal old new
   -- the sink failed: a front of the text is written
   SinkFailed : (w : W) (text : List ℕ) (meant : Status) → status ≡ SinkFault → ready ≡ Ok w → Shows w meant journal text → TakesFront old text new →
-    Outcome ready SoFar Shows status journal old new
+      Outcome ready SoFar Shows status journal old new
   -- the host failed
   HostFailed : status ≡ HostFault → journal ≡ [] → new ≡ old → Outcome ready SoFar Shows status journal old new
   -- want of memory, before the run and in it

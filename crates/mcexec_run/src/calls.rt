@@ -55,16 +55,18 @@ fn boot<M: Machine>(alloc: Global, p: &Prepared) -> Result<M, Status>
 }
 
 // The report of a journal that led to this state.
-fn report_of<M: Machine>(
-    alloc: Global,
-    machine: &M,
-    journal: &[Event],
-) -> Result<Bytes, NoMemory>
+fn report_of<M: Machine>(alloc: Global, machine: &M, journal: &[Event]) -> Result<Bytes, NoMemory>
     ensures { IfOk result (λ text. text ≡ text_at Form.Report (M.pair machine.now) journal.now) }
 {
     let summary = machine.summary()?;
     one_report();
-    let text = report(alloc, &summary, machine.ending(), machine.requests(), journal)?;
+    let text = report(
+        alloc,
+        &summary,
+        machine.ending(),
+        machine.requests(),
+        journal,
+    )?;
     Ok(text)
 }
 
@@ -201,7 +203,10 @@ fn check_into<M: Machine, S: Sink>(alloc: Global, p: &Prepared, sink: &mut S) ->
 {
     let machine: Result<M, Status> = boot(alloc, p);
     match machine {
-        Ok(_machine) => write(mck_report::check(alloc, p.job.frames, p.images.as_slice()), sink),
+        Ok(_machine) => write(
+            mck_report::check(alloc, p.job.frames, p.images.as_slice()),
+            sink,
+        ),
         Err(status) => status,
     }
 }

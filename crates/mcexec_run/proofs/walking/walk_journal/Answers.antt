@@ -47,7 +47,7 @@ steps-preserved g c =
     let next : g.M.Offers.pair c.apply.new.self ≡ after pair c.in-Some.event = c.apply.ensures.state ∙ ap (λ p. after p c.in-Some.event) c.make_room.ensures.state in
     record {
       follows = follows_on (first_turn c.args.order) start c.steps.journal c.push.new.self c.steps.walker c.next.new.self pair (g.M.Offers.pair c.apply.new.self) t.choice c.in-Some.event c.steps.invariant.follows t.chosen t.event
-        c.in_ok-push.ensures.ok (turned (chosen c.steps.walker pair) t.choice c.steps.walker c.next.new.self t.chosen c.next.ensures.turn) next;
+          c.in_ok-push.ensures.ok (turned (chosen c.steps.walker pair) t.choice c.steps.walker c.next.new.self t.chosen c.next.ensures.turn) next;
       legal = legal_on start pair c.steps.journal c.push.new.self c.in-Some.event c.steps.invariant.legal c.steps.invariant.state may_it c.in_ok-push.ensures.ok;
       state = state_on start pair (g.M.Offers.pair c.apply.new.self) c.steps.journal c.push.new.self c.in-Some.event c.steps.invariant.state next c.in_ok-push.ensures.ok;
     }
