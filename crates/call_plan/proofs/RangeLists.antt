@@ -82,7 +82,8 @@ pub left-over : (items : List Range) (r : Range) (n : ℕ) → (1 < length items
 left-over [] r n h e w = cc
 left-over (x ∷ xs) r n h e w = elim (cases_lt n r.len) [
   | inl l ↦ ap (λ (rs : List Range). length rs == 0) (sym (cut-items (x ∷ xs) r n h e l)) ∙ some_of (record { address = r.address + n; len = r.len - n }) xs
-  | inr l ↦ ap (λ (rs : List Range). length rs == 0) (sym (past-items (x ∷ xs) r n h e l)) ∙ more xs (elim w [ inl k ↦ k | inr k ↦ absurd (omega arith) ]) ]
+  | inr l ↦ ap (λ (rs : List Range). length rs == 0) (sym (past-items (x ∷ xs) r n h e l)) ∙ more xs (elim w [ inl k ↦ k | inr k ↦ absurd (omega arith) ])
+]
   where
     more : (xs : List Range) → length (x ∷ xs) ≢ 1 → (length xs == 0) ≡ false
     more [] k = absurd (k refl)

@@ -152,7 +152,8 @@ impl Phases {
         ensures { result ≡ (length (advanced n (without_empty (ranges_of (get_or self.now 0 Act)))) == 0) }
     {
         match self.stages {
-            Stages::GatherAct | Stages::GatherStream | Stages::Scatter | Stages::Stream => is_used_up(&self.ranges, n),
+            Stages::GatherAct | Stages::GatherStream | Stages::Scatter | Stages::Stream =>
+                is_used_up(&self.ranges, n),
             _ => true,
         }
     }
