@@ -1,4 +1,5 @@
 -- The acts of the file calls. The checks of each stand in the order in which they are made.
+-- Source: man-pages section 2 (openat, mkdirat, unlinkat, close, lseek, ioctl, pipe2, fstat, getdents64, read, write); the order of checks is this project's own.
 use Rattle.file_model.specs.Errno.{ENOENT, EBADF, EBUSY, EEXIST, ENOTDIR, EISDIR, EINVAL, EMFILE, ENOTTY, ENOSPC, ESPIPE, ENOTEMPTY}
 use Rattle.file_model.specs.declared.descriptions.Description.{Description}
 use Rattle.file_model.specs.declared.descriptions.Target.{Target}

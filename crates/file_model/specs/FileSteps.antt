@@ -1,4 +1,5 @@
 -- The file step of each operation, and its kind.
+-- Source: this project's own.
 use Rattle.std.specs.Prelude.{ℕ, List, pos}
 use Rattle.file_model.specs.Files.{Files, leave}
 use Rattle.file_model.specs.Operations.{FileResult, done}

@@ -1,4 +1,5 @@
 -- The files of the node: nodes of the tree, pipes, open descriptions, descriptors and consoles, each by its number. The lists and limits are this project's own; the words are those of man-pages (open, pipe).
+-- Source: man-pages section 2 (open, pipe2); the limits are this project's own.
 use Rattle.file_model.specs.declared.descriptions.Description.{Description}
 use Rattle.file_model.specs.declared.descriptions.Target.{Target}
 use Rattle.file_model.specs.declared.descriptions.Target.TheVariants.{OfNode, ReadEnd, WriteEnd, OfConsole}

@@ -1,4 +1,5 @@
 -- The operations on files, and what one gives.
+-- Source: this project's own.
 use Rattle.std.specs.Prelude.{ℕ, List, [], ℤ}
 use Rattle.mck_word.specs.Words.{refused}
 use Rattle.file_model.specs.Files.{Files}

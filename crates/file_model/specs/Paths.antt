@@ -1,4 +1,5 @@
 -- Paths: their names, where they lead in the tree, and the path of a node (man-pages path_resolution; the order of errors is this project's own).
+-- Source: man-pages section 7 (path_resolution); the order of errors is this project's own.
 use Rattle.file_model.specs.Errno.{ENOENT, EBADF, ENOTDIR, ENAMETOOLONG}
 use Rattle.file_model.specs.Files.{Files, Inode, Name, described, description_of, made, node_of, root, set_bytes}
 use Rattle.file_model.specs.declared.descriptions.Target.{Target}

@@ -1,4 +1,5 @@
 -- A stream's pieces: whether one can move now, and what it moves.
+-- Source: man-pages section 2 (read, write); pieces and limits are this project's own.
 use Rattle.file_model.specs.Errno.{EFBIG, ENOSPC, EPIPE}
 use Rattle.file_model.specs.declared.descriptions.Description.{Description}
 use Rattle.file_model.specs.declared.descriptions.Target.{Target}

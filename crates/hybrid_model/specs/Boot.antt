@@ -1,4 +1,5 @@
 -- The two kernels at the boot of a job and its images: frames are handed out lowest first, guest by guest, and in each guest to its pages in rising order.
+-- Source: this project's own, after the idea of IHK/McKernel.
 use Rattle.hybrid_model.specs.Pairs.{Pair}
 use Rattle.hybrid_model.specs.Sides.{Side, no_lwk, new_side}
 use Rattle.hybrid_model.specs.Spaces.{Space, copied_pages}

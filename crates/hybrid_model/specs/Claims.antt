@@ -1,4 +1,5 @@
 -- What is claimed of events and of whole journals: the words of the main theorem.
+-- Source: this project's own, after the idea of IHK/McKernel.
 use Rattle.hybrid_model.specs.Boot.{boot}
 use Rattle.hybrid_model.specs.Events.{after}
 use Rattle.hybrid_model.specs.Globals.{Coherent, copies, table_of}

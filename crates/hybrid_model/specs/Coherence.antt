@@ -1,4 +1,5 @@
 -- What holds of one process in each state that the two kernels reach: one fact a line, each over just what it speaks of.
+-- Source: this project's own, after the idea of IHK/McKernel.
 use Rattle.clear_rounds.specs.declared.Phase.{Phase}
 use Rattle.clear_rounds.specs.declared.Phase.TheVariants.{Posted as RoundPosted, Taken, Acked}
 use Rattle.hybrid_model.specs.Sides.{Row, Noted, Round, Caller, Service, Side, state_in, call_in, closes, no_service}

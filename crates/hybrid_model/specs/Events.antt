@@ -1,4 +1,5 @@
 -- The events of the two kernels: when each may happen, and the one state that it leaves.
+-- Source: this project's own, after the idea of IHK/McKernel.
 use Rattle.hybrid_model.specs.declared.events.Event.{Event}
 use Rattle.hybrid_model.specs.declared.events.Event.TheVariants.{Run, Trap, Deliver, Intake, Answer, BeginVm, Interrupt, Wait, Reap, Script, Fetch, Assign, Miss, Pin, Copy, Unpin, Act, Park, Unpark, Finish, AckClear}
 use Rattle.clear_rounds.specs.declared.Phase.TheVariants.{Acked}

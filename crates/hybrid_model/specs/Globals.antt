@@ -1,4 +1,5 @@
 -- What holds of the whole state: frames, turns, sleepers, numbers; and coherence.
+-- Source: this project's own, after the idea of IHK/McKernel.
 use Rattle.hybrid_model.specs.Coherence.{OfProcess}
 use Rattle.hybrid_model.specs.Pairs.{Pair, side_of}
 use Rattle.hybrid_model.specs.Rings.{all_empty}

@@ -1,4 +1,5 @@
 -- The image of an event: the steps of the one-kernel machine that it stands for.
+-- Source: this project's own, after the idea of IHK/McKernel.
 use Rattle.kernel_model.specs.declared.steps.Step.TheVariants as Steps
 use Rattle.ikc_ring.specs.declared.Msg.TheVariants as Messages
 use Rattle.hybrid_model.specs.Events.{process_of_event}

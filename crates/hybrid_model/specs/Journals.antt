@@ -1,4 +1,5 @@
 -- Journals: lists of events, each of which may happen in the state that those before it leave; and how a run ends.
+-- Source: this project's own, after the idea of IHK/McKernel.
 use Rattle.hybrid_model.specs.Boot.{boot, shortage}
 use Rattle.hybrid_model.specs.Events.{may, after}
 use Rattle.hybrid_model.specs.Images.{image}

@@ -1,4 +1,5 @@
 -- The events of the Linux side, each over the parts of the process that it reads or changes.
+-- Source: this project's own, after the idea of IHK/McKernel.
 use Rattle.clear_rounds.specs.declared.Phase.TheVariants.{Taken}
 use Rattle.file_model.specs.Files.{Files, description_of}
 use Rattle.file_model.specs.declared.descriptions.Target.{Target}

@@ -1,4 +1,5 @@
 -- What the two kernels keep of one process, beside its part of the node.
+-- Source: this project's own, after the idea of IHK/McKernel.
 use Rattle.clear_rounds.specs.declared.Phase.{Phase}
 use Rattle.ikc_ring.specs.declared.Call.{Call}
 use Rattle.ikc_ring.specs.declared.Msg.{Msg}

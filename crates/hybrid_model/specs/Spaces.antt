@@ -1,4 +1,5 @@
 -- A process's memory through its table: what is there, what is stored, and changes page by page.
+-- Source: this project's own, after the idea of IHK/McKernel.
 use Rattle.hybrid_model.specs.Sides.{Row}
 use Rattle.isa_model.specs.Memory.{Memory, Page}
 use Rattle.kernel_model.specs.MemoryCalls.{Effect}

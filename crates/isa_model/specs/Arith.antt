@@ -1,4 +1,5 @@
 -- What the instructions compute. Numbers of 64 bits are below 2 ^ 64; `cast_signed w64` is the signed number of such bits.
+-- Source: RISC-V Unprivileged ISA, RV64I and M.
 use Rattle.std.specs.Prelude.{ℕ, ◌+◌, ◌-◌, ◌*◌, ◌/◌, ◌%◌, ◌^◌, ◌==◌, Bool, true, false, not, nat_lt, int_lt, bit_and, bit_or, bit_xor}
 use Rattle.std.specs.Int.{w64, cast_signed, cast_unsigned, int_shr}
 use Rattle.mck_word.specs.Word.{sext_of}

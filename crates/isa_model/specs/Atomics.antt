@@ -1,4 +1,5 @@
 -- Multiplication, division and atomic memory operations: their words and what they compute.
+-- Source: RISC-V Unprivileged ISA, M and A without LR and SC; that a misaligned atomic operation stops first is this project's own.
 use Rattle.std.specs.Prelude.{ℕ, ◌+◌, ◌-◌, ◌*◌, ◌/◌, ◌%◌, ◌^◌, ◌==◌, Bool, true, false, not, ◌&&◌, nat_lt, int_lt, bit_and, bit_or, bit_xor, List, [], ◌∷◌, Option, Some, None, ℤ, pos, negsuc, neg_ℤ, ◌*ℤ◌, if◌then◌else◌}
 use Rattle.std.specs.List.{find}
 use Rattle.std.specs.Int.{w64, cast_signed, cast_unsigned, int_shr}

@@ -1,4 +1,5 @@
 -- What a word says: the row of the table that it fits, and its fields. Fields are quotients and remainders of the word.
+-- Source: RISC-V Unprivileged ISA, instruction formats.
 use Rattle.std.specs.Prelude.{ℕ, ◌+◌, ◌-◌, ◌*◌, ◌/◌, ◌%◌, ◌^◌, ◌<◌, Bool, true, false, ◌&&◌, ◌==◌, nat_lt, List, [], ◌∷◌, Option, option_map, ℤ, pos, negsuc, if◌then◌else◌}
 use Rattle.std.specs.List.{find, list_all}
 use Rattle.isa_model.specs.Table.{row_of, table}

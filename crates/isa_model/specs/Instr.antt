@@ -1,4 +1,5 @@
 -- One instruction over registers and a memory.
+-- Source: RISC-V Unprivileged ISA.
 use Rattle.std.specs.Prelude.{ℕ, ◌*◌, ◌/◌, ◌%◌, ◌^◌, ◌==◌, ◌||◌, ℤ, Option, Some, None, Result, Ok, Err, if◌then◌else◌}
 use Rattle.std.specs.Int.{w64, cast_unsigned}
 use Rattle.mck_word.specs.Word.{sext_of}

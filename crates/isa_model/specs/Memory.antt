@@ -1,4 +1,5 @@
 -- Memory as pages by number, each with its rights and its 4096 bytes.
+-- Source: RISC-V Unprivileged ISA, loads and stores; one step at any alignment and the first lacking page are this project's own.
 use Rattle.std.specs.Prelude.{ℕ, zero, suc, ◌≡◌, ◌+◌, ◌-◌, ◌*◌, ◌/◌, ◌%◌, ◌^◌, ◌⊎◌, Bool, true, false, not, List, [], ◌∷◌, Option, Some, None, Result, Ok, Err, slice_index, slice_set, if◌then◌else◌}
 use Rattle.std.specs.List.{list_all}
 use Rattle.mck_word.specs.Maps.{Map, at, change}

@@ -1,4 +1,5 @@
 -- What each image keeps that was loaded (ELF-64, in this project's profile). Addresses and sizes are in bytes.
+-- Source: ELF-64, in this project's profile.
 use Rattle.job_model.specs.declared.image.Image.{Image}
 use Rattle.job_model.specs.declared.image.Segment.{Segment}
 use Rattle.mck_flags.specs.Rights.{includes}

@@ -1,4 +1,5 @@
 -- A job with its images and files, as a node is booted from it.
+-- Source: this project's own.
 use Rattle.job_model.specs.Images.{IsImage}
 use Rattle.job_model.specs.declared.image.Image.{Image}
 use Rattle.job_model.specs.declared.job.FileLine.{FileLine}

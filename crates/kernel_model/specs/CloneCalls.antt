@@ -1,5 +1,5 @@
 -- The local calls that make threads and processes, and wait4.
--- ---- clone
+-- Source: man-pages section 2 (clone, fork, wait4, getppid), in this project's profile.
 use Rattle.file_model.specs.Errno.{EAGAIN, ECHILD, EFAULT, EINVAL, ENOMEM, ENOSYS}
 use Rattle.file_model.specs.Files.{share}
 use Rattle.isa_model.specs.Memory.{may_access, Memory}
@@ -18,6 +18,8 @@ use Rattle.mck_word.specs.declared.End.TheVariants.{Exit, Killed}
 use Rattle.mck_word.specs.declared.Regs.{Regs}
 use Rattle.std.specs.List.{list_all}
 use Rattle.std.specs.Prelude.{Bool, List, None, Option, Some, [], cond, false, find, is_some, length, nat_le, nat_lt, negsuc, not, option_map, pos, suc, true, zero, ℕ, ℤ, ◌%◌, ◌&&◌, ◌*◌, ◌+◌, ◌==◌, ◌||◌, ◌∷◌}
+
+-- ---- clone
 
 abbrev pub needed_flags : List ℕ
 needed_flags = 8 ∷ 9 ∷ 10 ∷ 11 ∷ 16 ∷ []

@@ -1,4 +1,5 @@
 -- A guest's memory and registers at the boot.
+-- Source: the System V start of a process; the addresses are this project's own.
 use Rattle.isa_model.specs.Memory.{write_bytes, Memory, Page}
 use Rattle.job_model.specs.declared.image.Image.{Image}
 use Rattle.job_model.specs.declared.image.Segment.{Segment}

@@ -1,4 +1,5 @@
 -- The memory calls: what one decides, what its change does, and what a round over it closes.
+-- Source: man-pages section 2 (mmap, munmap, mprotect, brk); rounds and bounds are this project's own.
 use Rattle.file_model.specs.Errno.{EINVAL, ENOMEM}
 use Rattle.isa_model.specs.Memory.{Page, allows, Memory}
 use Rattle.kernel_model.specs.Nodes.{Process}

@@ -1,4 +1,5 @@
 -- The state that both machines have in common, as one value: processes, threads, sleepers, files, the script. What a machine keeps of memory and of calls stands beside it.
+-- Source: this project's own.
 use Rattle.file_model.specs.Files.{Files}
 use Rattle.isa_model.specs.Registers.{with_reg}
 use Rattle.isa_model.specs.declared.stops.Stop.{Stop}

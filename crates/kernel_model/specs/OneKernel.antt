@@ -1,4 +1,5 @@
 -- The one-kernel machine: its state, one process at a time, and its state at the boot.
+-- Source: this project's own.
 use Rattle.file_model.specs.Files.{Files, root_only, with_console}
 use Rattle.file_model.specs.Paths.{with_file}
 use Rattle.isa_model.specs.Memory.{Memory}

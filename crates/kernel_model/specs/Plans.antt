@@ -1,4 +1,5 @@
 -- The plan of a system call: not known, local, on memory, or delegated, with its phases.
+-- Source: Linux's generic call numbers; phases are this project's own.
 use Rattle.file_model.specs.declared.operations.FileOp.{FileOp}
 use Rattle.file_model.specs.declared.operations.FileOp.TheVariants.{Openat, Mkdirat, Unlinkat, Close, Lseek, Ioctl, Pipe2, Fstat, Getdents, Read as ReadAct, Write as WriteAct}
 use Rattle.kernel_model.specs.declared.ranges.Range.{Range}

@@ -1,4 +1,5 @@
 -- How far a delegated call has come, and what each of its steps does. Both machines apply these definitions: one to a row, the other to a pinned frame.
+-- Source: this project's own.
 use Rattle.file_model.specs.Errno.{EFAULT, EINTR, EINVAL, ENAMETOOLONG}
 use Rattle.file_model.specs.FileSteps.{ready, file_step}
 use Rattle.file_model.specs.Files.{Files, leave}

@@ -1,4 +1,5 @@
 -- The local calls on signals.
+-- Source: man-pages section 2 (kill, tgkill, sigaction, sigprocmask, sigpending).
 -- ---- kill and tgkill
 use Rattle.file_model.specs.Errno.{EFAULT, EINVAL, ESRCH}
 use Rattle.isa_model.specs.Memory.{may_access, read_bytes}

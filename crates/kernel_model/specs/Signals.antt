@@ -1,4 +1,5 @@
 -- Signals: generating, choosing, raising, delivering, returning.
+-- Source: man-pages sections 2 and 7 (sigaction, sigreturn, signal); the frame and the order of signals are this project's own.
 use Rattle.file_model.specs.Errno.{EINTR}
 use Rattle.isa_model.specs.Memory.{may_access, read_bytes, write_bytes, Memory}
 use Rattle.isa_model.specs.Registers.{reg}

@@ -1,4 +1,5 @@
 -- Changes of a process's memory, page by page: pages taken away, added, and with other rights.
+-- Source: this project's own.
 use Rattle.isa_model.specs.Memory.{Memory, Page}
 use Rattle.kernel_model.specs.MemoryCalls.{Effect}
 use Rattle.kernel_model.specs.Pages.{pages_count, zero_page}

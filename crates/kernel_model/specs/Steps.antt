@@ -1,4 +1,5 @@
 -- The steps of the one-kernel machine: when each may happen, and what it does, one process at a time.
+-- Source: this project's own.
 use Rattle.kernel_model.specs.declared.steps.Step.{Step}
 use Rattle.kernel_model.specs.declared.steps.Step.TheVariants.{Instr, Trap, Deliver, VmFinish, Piece, PieceFault, FileStep, Block, Wake, Return, Mark, Interrupted, Wait, Script, End}
 use Rattle.isa_model.specs.Memory.{Memory, Page, allows_in}

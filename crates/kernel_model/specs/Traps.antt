@@ -1,4 +1,5 @@
 -- A trap of a stopped thread, and what gives it its answer later.
+-- Source: this project's own.
 use Rattle.file_model.specs.Errno.{EINTR, ENOSYS, EPIPE}
 use Rattle.file_model.specs.Files.{close_all}
 use Rattle.isa_model.specs.Instr.{Outcome, instr}

@@ -1,4 +1,5 @@
 -- What `each` makes of the words on maps: a map whose values are seen in another form keeps its shape.
+-- Source: this project's own (laws, for proofs).
 use Rattle.mck_word.specs.MapLaws.{at-collect, at-cut, at-keep, at-none, at-put, same_rows}
 use Rattle.mck_word.specs.Maps.{Map, at, change, change_row, cut, each, keep, no_rows, put, and_then}
 use Rattle.std.proofs.Common.{ap, refl, sym, ◌∙◌}

@@ -1,4 +1,5 @@
 -- The identifiers of numbers.
+-- Source: this project's own.
 use Rattle.std.specs.Prelude.{ℕ}
 use Rattle.mck_word.specs.declared.Pid.{Pid}
 use Rattle.mck_word.specs.declared.Tid.{Tid}

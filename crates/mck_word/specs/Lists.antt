@@ -1,4 +1,5 @@
 -- Words on lists that the definitions share.
+-- Source: this project's own.
 use Rattle.std.specs.Prelude.{ℕ, zero, suc, ◌+◌, ◌-◌, Bool, not, cond, ◌==◌, List, [], ◌∷◌, ◌++◌, map, length, take, drop, replicate, filter, find, unwrap_or}
 use Rattle.std.specs.List.{list_any}
 

@@ -1,4 +1,5 @@
 -- Finite maps from whole numbers, in std's words and a few more.
+-- Source: this project's own, over std's finite maps.
 use Rattle.std.specs.Prelude.{ℕ, Bool, List, [], ◌∷◌, Option, Some, None, sum_by}
 use Rattle.std.specs.List.{list_any, list_all}
 use Rattle.std.specs.Ordering.{nat_cmp}

@@ -1,4 +1,5 @@
 -- Decimal numbers without sign or leading zero.
+-- Source: this project's own.
 use Rattle.std.specs.Prelude.{ℕ, ◌+◌, ◌-◌, ◌*◌, ◌^◌, ◌==◌, nat_lt, List, [], ◌∷◌, Option, Some, None, if◌then◌else◌}
 
 -- the digits after a number, as long as it stays below 2 ^ 64

@@ -1,4 +1,5 @@
 -- The report of a journal.
+-- Source: this project's own.
 use Rattle.file_model.specs.Files.{Console, Files, Inode}
 use Rattle.file_model.specs.Operations.{done}
 use Rattle.file_model.specs.Paths.{bytes_before, path_of}

@@ -1,4 +1,5 @@
 -- The trace of a journal: one line for each event.
+-- Source: this project's own.
 use Rattle.hybrid_model.specs.declared.events.Event.{Event}
 use Rattle.hybrid_model.specs.declared.events.Event.TheVariants.{Run, Trap, Deliver, Intake, Answer, BeginVm, Interrupt, Wait, Reap, Script, Fetch, Assign, Miss, Pin, Copy, Unpin, Act, Park, Unpark, Finish, AckClear}
 use Rattle.run_model.specs.Texts.{Word, Text, Number, Part, Line, text_of}

@@ -1,4 +1,5 @@
 -- Walks: the actors, what each offers, and which of them acts next.
+-- Source: this project's own.
 use Rattle.run_model.specs.declared.actors.Actor.{Actor}
 use Rattle.run_model.specs.declared.actors.Actor.TheVariants.{Core, Kernel, Linux, Worker, Script as ScriptActor}
 use Rattle.hybrid_model.specs.Boot.{boot}

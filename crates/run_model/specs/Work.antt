@@ -1,4 +1,5 @@
 -- The work of a journal and its allowance; and a number of the state that every event lessens beside what is left of the limit.
+-- Source: this project's own.
 use Rattle.ikc_ring.specs.declared.Msg.TheVariants as Messages
 use Rattle.request_book.specs.declared.ReqState.TheVariants as States
 use Rattle.clear_rounds.specs.declared.Phase.{Phase}
