@@ -5,12 +5,12 @@ use Rattle.hybrid_laws.specs.CallsLast.{workers-stay}
 use Rattle.hybrid_laws.specs.Placing.{EachNumbered-map}
 use Rattle.hybrid_model.specs.Claims.{Holds}
 use Rattle.hybrid_model.specs.Coherence.{AnswerIsFor, AtMostInterrupt, AtMostRequest, FaultIsFor, InterruptIs, IsAwaited, IsPart, OfProcess, Placed, ReplyIsAwaited, RequestIs, acked, acks, answers_to, calls_it, clears, faulting, faults_of, goes_to_linux, is_acked_phase, is_faulted, is_live, is_of_place, is_posted_phase, of_place, place_in, posted, replies_to, state_at, tid_in}
-use Rattle.hybrid_model.specs.Events.{after, may, process_of_event}
+use Rattle.hybrid_model.specs.Events.{after, process_of_event}
 use Rattle.hybrid_model.specs.Globals.{Coherent, Places, ring_number}
 use Rattle.hybrid_model.specs.Pairs.{Pair, here, side_of}
 use Rattle.hybrid_model.specs.Rings.{ring}
 use Rattle.hybrid_model.specs.Sides.{Caller, Round, Side, state_in}
-use Rattle.hybrid_model.specs.Tallies.{Each, EachNumbered, Reads, as_number, counted, if_same, sum_rings, tally}
+use Rattle.hybrid_model.specs.Tallies.{Each, Reads, as_number, if_same, tally}
 use Rattle.hybrid_model.specs.declared.events.Event.{Event}
 use Rattle.clear_rounds.specs.declared.Phase.{Phase}
 use Rattle.clear_rounds.specs.declared.Phase.TheVariants.{Posted as RoundPosted, Taken, Acked}
@@ -21,7 +21,7 @@ use Rattle.kernel_model.specs.Nodes.{Node, Thread}
 use Rattle.mck_word.specs.Maps.{at}
 use Rattle.request_book.specs.declared.ReqState.{ReqState}
 use Rattle.request_book.specs.declared.ReqState.TheVariants.{Posted, Waiting, Held, Parked, Faulted, Ended, Replied}
-use Rattle.std.proofs.Common.{ap, arith, inl, inr, refl, subst, sym, ◌∙◌}
+use Rattle.std.proofs.Common.{ap, arith, inl, inr, refl, sym, ◌∙◌}
 use Rattle.std.proofs.lemmas.Bool.Decides.{nat_tests}
 use Rattle.std.specs.Prelude.{Bool, List, None, Option, Some, [], false, if◌then◌else◌, length, true, ℕ, ◌+◌, ◌<◌, ◌==◌, ◌∷◌, ◌≡◌, ◌≤◌, ◌⊎◌}
 
