@@ -133,7 +133,7 @@ born-is (Events.Trap t) p h none b f = go (trap t.0 (length h.free) (view_here h
         record { thread = t; traps = refl; number = ap (λ (z : ℕ × Side). z.0) (sym y) ∙ s.number; callers = ap (λ (z : ℕ × Side). z.1.lwk.callers) (sym y); book = ap (λ (z : ℕ × Side). z.1.book) (sym y) }
 
 -- ---- the number of workers stays
-workers-stay : (e : Event) (p : ℕ) (h : Here) → (after_here e p h).workers ≡ h.workers
+pub workers-stay : (e : Event) (p : ℕ) (h : Here) → (after_here e p h).workers ≡ h.workers
 unfolding run after_trap after_deliver take_reply take_fault take_ack begin_round post_answer post_interrupt reap miss copy act_file park_here unpark_here finish_here ack_clear
 workers-stay (Events.Run core t n) p h = refl
 workers-stay (Events.Deliver t) p h = refl

@@ -1,0 +1,10 @@
+use Rattle.guest_laws.specs.RingRoom.{finds-room, rings-fit}
+use Rattle.hybrid_laws.specs.JournalLaws.{each-event}
+use Rattle.hybrid_laws.specs.LwkEvents.{each-lwk}
+use Rattle.guest_laws.proofs.no_ring_is_full.Goals as goal
+
+pub returns-clause-fit : goal.returns-clause-fit
+returns-clause-fit c = λ pair coherent. rings-fit pair coherent
+
+pub returns-clause-room : goal.returns-clause-room
+returns-clause-room c = λ pair e coherent m. finds-room pair e (each-event each-lwk pair e coherent m)
