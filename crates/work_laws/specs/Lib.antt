@@ -1,0 +1,12 @@
+pub mod Weights
+pub mod Rows
+pub mod Services
+pub mod AckClear
+pub mod Assign
+pub mod Unpark
+pub mod Miss
+pub mod Finish
+pub mod Unpin
+pub mod Pin
+pub mod BeginVm
+pub mod Family
