@@ -1,7 +1,6 @@
 -- The report of a journal.
 -- Source: this project's own.
 use Rattle.file_model.specs.Files.{Console, Files, Inode}
-use Rattle.file_model.specs.Operations.{done}
 use Rattle.file_model.specs.Paths.{bytes_before, path_of}
 use Rattle.hybrid_model.specs.Boot.{boot}
 use Rattle.hybrid_model.specs.Journals.{ending, state, images}
@@ -19,7 +18,7 @@ use Rattle.kernel_model.specs.OneKernel.{OneKernel}
 use Rattle.kernel_model.specs.declared.Life.{Life}
 use Rattle.kernel_model.specs.declared.Life.TheVariants.{Living, Dying, Ended}
 use Rattle.mck_word.specs.Lists.{sorted_by}
-use Rattle.mck_word.specs.Maps.{total, entries, count}
+use Rattle.mck_word.specs.Maps.{total, entries}
 use Rattle.mck_word.specs.declared.End.{End}
 use Rattle.mck_word.specs.declared.End.TheVariants.{Exit, Killed}
 use Rattle.run_model.specs.Texts.{Word, Text, Number, Part, Line, Block, text_of}
