@@ -91,7 +91,7 @@ module _ (pair : Pair) (none : NoneMay pair) where
     of_script = none-found (may pair) (lines pair) none.of_script;
   })
 
-none-at-end : (pair : Pair) → is_at_end pair ≡ true → Each (OffersNone pair) (actors pair)
+pub none-at-end : (pair : Pair) → is_at_end pair ≡ true → Each (OffersNone pair) (actors pair)
 none-at-end pair e = none-offers pair (candidates-parts pair (any-none (may pair) (candidates pair) (turned (list_any (may pair) (candidates pair)) e)))
   where
     turned : (b : Bool) → not b ≡ true → b ≡ false
@@ -103,10 +103,11 @@ an-offer pair a e among offers = go (is_at_end pair) refl
   where
     go : (b : Bool) → is_at_end pair ≡ b → b ≡ false
     go false f = refl
-    go true f = absurd (let n = All-contains (OffersNone pair) (actors pair) a (All-from_recursion (OffersNone pair) (actors pair) (recursion (actors pair) (none-at-end pair f))) among in let k = sym n ∙ offers in grind (arith, k))
-      where
-        recursion : (as_ : List Actor) → Each (OffersNone pair) as_ → Each (OffersNone pair) as_
-        recursion as_ h = h
+    go true f = absurd (
+        let n = All-contains (OffersNone pair) (actors pair) a (All-from_recursion (OffersNone pair) (actors pair) (none-at-end pair f)) among in
+        let k = sym n ∙ offers in
+        grind (arith, k)
+        )
 
 pub goes-on : (pair : Pair) → is_at_end pair ≡ false → ending pair ≡ Unfinished
 goes-on pair e = ap (λ b. cond b (ending_of_run pair) Unfinished) e

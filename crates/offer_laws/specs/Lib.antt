@@ -3,3 +3,7 @@ pub mod Silence
 pub mod OffersMay
 pub mod NoOffer
 pub mod AnOffer
+pub mod Rows
+pub mod Sizes
+pub mod Small
+pub mod Walking

@@ -118,9 +118,11 @@ module _ (pair : Pair) (some_core : 1 ≤ pair.cores) (none : NoneOffers pair) w
     of_script = none-passes (may pair) (lines pair) none.of_script;
   }
 
+pub none-ends : (pair : Pair) → 1 ≤ pair.cores → Each (OffersNone pair) (actors pair) → is_at_end pair ≡ true
+none-ends pair some_core h = ap not (none-any (may pair) (candidates pair) (candidates-whole pair (none-may pair some_core (actors-parts pair h))))
+
 pub no-offer-ends : (pair : Pair) → 1 ≤ pair.cores → first_chosen pair (actors pair) ≡ None → is_at_end pair ≡ true
-no-offer-ends pair some_core e =
-    ap not (none-any (may pair) (candidates pair) (candidates-whole pair (none-may pair some_core (actors-parts pair (none-chosen pair (actors pair) e)))))
+no-offer-ends pair some_core e = none-ends pair some_core (none-chosen pair (actors pair) e)
 
 -- the ending of a run that is over is none of a run under way
 over-ends : (pair : Pair) → ending_of_run pair ≢ Unfinished
