@@ -13,9 +13,6 @@ use Rattle.std.specs.Cmp.{nat_cmp_total, unsigned_tied}
 use Rattle.std.specs.Ordering.{nat_cmp}
 use Rattle.std.specs.Prelude.{Bool, List, None, Some, [], cond, false, is_some, length, sum_by, true, ℕ, ◌+◌, ◌==◌, ◌∷◌, ◌≡◌, ◌≤◌}
 
-abbrev one : {V : Type 0} → V → ℕ
-one v = 1
-
 module _ {V : Type 0} where
   length-sum : (es : List (ℕ × V)) → length es ≡ sum_by (λ (e : ℕ × V). 1) es
   length-sum [] = refl
