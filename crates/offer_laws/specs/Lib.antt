@@ -7,3 +7,4 @@ pub mod Rows
 pub mod Sizes
 pub mod Small
 pub mod Walking
+pub mod Over

@@ -2,7 +2,8 @@
 use Rattle.hybrid_laws.specs.BootCoherent.{boot-coherent}
 use Rattle.hybrid_model.specs.Boot.{boot, shortage}
 use Rattle.hybrid_model.specs.Events.{after, may}
-use Rattle.hybrid_model.specs.Journals.{is_at_end, may_all, state}
+use Rattle.hybrid_model.specs.Globals.{Coherent}
+use Rattle.hybrid_model.specs.Journals.{IsOver, is_at_end, may_all, state}
 use Rattle.hybrid_model.specs.Pairs.{Pair}
 use Rattle.hybrid_model.specs.Tallies.{Each}
 use Rattle.hybrid_model.specs.declared.events.Event.{Event}
@@ -14,6 +15,7 @@ use Rattle.offer_laws.specs.Each.{each-parts, each-join}
 use Rattle.offer_laws.specs.NoOffer.{none-ends}
 use Rattle.offer_laws.specs.OffersMay.{offer-may}
 use Rattle.offer_laws.specs.Small.{coherent-journal}
+use Rattle.offer_laws.specs.Over.{end-is-over}
 use Rattle.offer_laws.specs.Silence.{OffersNone, chosen-none, none-chosen}
 use Rattle.run_model.specs.Walks.{Chosen, IsWalked, Walker, actors, behind, chosen_by, first_chosen, in_turn, is_same_actor, moved, next_by_word, next_choice, offer, start, walk_for}
 use Rattle.run_model.specs.declared.actors.Actor.{Actor}
@@ -190,8 +192,14 @@ module _ (job : Job) (images : List Image) (words : Option (ℕ → ℕ)) (journ
       let same = sym (ap (λ (n : ℕ). walk_for words n (start job images)) more) ∙ walked.2 ∙ sym walked.1 in
       subst (Stopped words (start job images)) walked.1 (stops words walked.0 (start job images) same)
 
+  walk-coherent : IsPrepared job images → shortage job images ≡ None → Coherent (state (boot job images) journal)
+  walk-coherent prepared enough = coherent-journal journal (boot job images) (boot-coherent job images prepared enough) walk-legal
+
   pub walk-ends : IsPrepared job images → shortage job images ≡ None → is_at_end (state (boot job images) journal) ≡ true
   walk-ends prepared enough =
-      let c = coherent-journal journal (boot job images) (boot-coherent job images prepared enough) walk-legal in
+      let c = walk-coherent prepared enough in
       let some_core : 1 ≤ stopped.last.pair.cores = subst (λ (x : Pair). 1 ≤ x.cores) (sym stopped.there) c.rings.cores in
       subst (λ (x : Pair). is_at_end x ≡ true) stopped.there (none-ends stopped.last.pair some_core (next-none words stopped.last stopped.none))
+
+  pub walk-over : IsPrepared job images → shortage job images ≡ None → IsOver (state (boot job images) journal)
+  walk-over prepared enough = end-is-over (state (boot job images) journal) (walk-coherent prepared enough) (walk-ends prepared enough)

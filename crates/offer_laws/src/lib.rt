@@ -7,7 +7,7 @@
 ghost use Rattle.hybrid_model.specs.Boot.{boot, shortage};
 ghost use Rattle.hybrid_model.specs.Events.{after, may};
 ghost use Rattle.hybrid_model.specs.Globals.{Coherent};
-ghost use Rattle.hybrid_model.specs.Journals.{IsLegal, ending, is_at_end, state};
+ghost use Rattle.hybrid_model.specs.Journals.{IsLegal, IsOver, ending, is_at_end, state};
 ghost use Rattle.hybrid_model.specs.Pairs.{Pair};
 ghost use Rattle.hybrid_model.specs.declared.events.Ending.TheVariants.{Unfinished};
 ghost use Rattle.hybrid_model.specs.declared.events.Event.{Event};
@@ -24,7 +24,7 @@ pub fn offers_may()
     ensures { (pair : Pair) (a : Actor) (e : Event) → offer pair a ≡ Some e → may pair e ≡ true }
 {}
 
-/// Where no actor has an offer no event may happen, and the run has its ending. It takes a core, which each coherent state has.
+/// Where no actor has an offer no candidate may happen, and the run has its ending. It takes a core, which each coherent state has.
 pub fn no_offer_is_the_end()
     ensures over { (pair : Pair) → 1 ≤ pair.cores → first_chosen pair (actors pair) ≡ None → is_at_end pair ≡ true }
     ensures ending { (pair : Pair) → 1 ≤ pair.cores → first_chosen pair (actors pair) ≡ None → ending pair ≢ Unfinished }
@@ -37,18 +37,24 @@ pub fn an_offer_is_no_end()
     ensures exactly { (pair : Pair) → 1 ≤ pair.cores → is_at_end pair ≡ is_none (first_chosen pair (actors pair)) }
 {}
 
+/// Where no candidate may happen in a coherent state, no event at all may: the candidates stand for all.
+pub fn the_candidates_stand_for_all()
+    ensures over { (pair : Pair) → Coherent pair → is_at_end pair ≡ true → IsOver pair }
+    ensures at_end { (pair : Pair) → IsOver pair → is_at_end pair ≡ true }
+{}
+
 /// In any order, what is chosen next may happen, and nothing is chosen exactly where the run is over.
 pub fn every_choice()
     ensures may { (words : Option (ℕ → ℕ)) (w : Walker) (c : Chosen) → next_choice words w ≡ Some c → may w.pair c.event ≡ true }
     ensures none { (words : Option (ℕ → ℕ)) (w : Walker) → 1 ≤ w.pair.cores → is_at_end w.pair ≡ is_none (next_choice words w) }
 {}
 
-/// The walk of a prepared job for which the frames suffice is a legal journal, and its run is over.
+/// The walk of a prepared job for which the frames suffice is a legal journal, and its run is over: no event may happen then.
 pub fn every_walk()
     ensures legal { (job : Job) (imgs : List Image) (words : Option (ℕ → ℕ)) (journal : List Event) → shortage job imgs ≡ None
         → IsWalked job imgs words journal → IsLegal job imgs journal }
     ensures over { (job : Job) (imgs : List Image) (words : Option (ℕ → ℕ)) (journal : List Event) → IsPrepared job imgs → shortage job imgs ≡ None
-        → IsWalked job imgs words journal → is_at_end (state (boot job imgs) journal) ≡ true }
+        → IsWalked job imgs words journal → IsOver (state (boot job imgs) journal) }
     ensures ending { (job : Job) (imgs : List Image) (words : Option (ℕ → ℕ)) (journal : List Event) → IsPrepared job imgs → shortage job imgs ≡ None
         → IsWalked job imgs words journal → ending (state (boot job imgs) journal) ≢ Unfinished }
 {}
