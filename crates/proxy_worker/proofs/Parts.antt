@@ -87,3 +87,10 @@ module _ {V : Type 0} where
   pub not-found : (r : Option (Bor V)) (o : Option V) → option_copied r ≡ o → is_some r ≡ false → o ≡ None
   not-found None o e h = sym e
   not-found (Some x) o e h = absurd (grind (arith, h))
+
+pub shown-there : (m : Map ServiceOf) (q : ℕ) (r : Option (Bor ServiceOf)) → option_copied r ≡ at m q → is_some r ≡ is_some (at (services_of m) q)
+shown-there m q r e = go r ∙ sym (ap is_some (at-each shown_service m q ∙ ap (option_map shown_service) (sym e)))
+  where
+    go : (r : Option (Bor ServiceOf)) → is_some r ≡ is_some (option_map shown_service (option_copied r))
+    go None = refl
+    go (Some x) = refl

@@ -1,5 +1,5 @@
 // What a proxy answers of its workers and requests.
-ghost use Rattle.std.specs.Prelude.{◌≡◌, MatchOption, is_none, is_some, option_map};
+ghost use Rattle.std.specs.Prelude.{◌≡◌, ◌↔◌, IsTrue, MatchOption, option_map};
 ghost use Rattle.std.specs.Option.{option_copied};
 ghost use Rattle.hybrid_model.specs.Linux as events;
 ghost use Rattle.hybrid_model.specs.Sides as sides;
@@ -7,6 +7,7 @@ ghost use Rattle.hybrid_model.specs.Sides.{no_service, service_of};
 ghost use Rattle.kernel_model.specs.Progress as calls;
 ghost use Rattle.kernel_model.specs.Progress.{needed_access};
 ghost use Rattle.mck_word.specs.Maps.{at};
+ghost use Rattle.proxy_worker.specs.Fits.{HasService};
 ghost use Rattle.proxy_worker.specs.Shown.{linux_of, shown_service};
 
 use crate::proxy::Proxy;
@@ -30,6 +31,13 @@ impl Proxy {
         ensures { MatchOption (option_copied result) (service_of (linux_of self.now).services q.0 ≡ no_service) (λ k. service_of (linux_of self.now).services q.0 ≡ shown_service k) }
     {
         self.services.get(q.0)
+    }
+
+    /// Whether the request has a service: it was fetched, and is not replied.
+    pub fn has_service(&self, q: Req) -> bool
+        ensures { IsTrue result ↔ HasService self.now q.0 }
+    {
+        self.services.get(q.0).is_some()
     }
 
     /// The progress of a request's call: None exactly where the request has no service.

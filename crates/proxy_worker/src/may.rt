@@ -176,20 +176,20 @@ impl Proxy {
     }
 
     /// Whether the request's step is ready, and no other request has the turn of that end.
-    pub(crate) fn may_take_turn<S: FileStore>(&self, q: Req, pid: Pid, files: &S, turns: &Turns) -> bool
+    pub(crate) fn may_take_turn<S: FileStore>(&self, q: Req, files: &S, pid: Pid, turns: &Turns) -> bool
         ensures { result ≡ events.may_take_turn pid.0 (linux_of self.now) (S.files files.now) (turns_of turns.now) q.0 }
     {
         is_ready(self.next_kind(q, files))
-            && !turns.other_has_turn(self.pipe_end(q, files), pid, q)
+            && !turns.other_has_turn(pid, q, self.pipe_end(q, files))
     }
 
     /// Whether the parked request may wait for a worker again.
     pub fn may_unpark<S: FileStore>(
         &self,
         q: Req,
-        pid: Pid,
         book: &Book,
         files: &S,
+        pid: Pid,
         turns: &Turns,
     ) -> bool
         ensures { result ≡ events.may_unpark pid.0 (linux_of self.now) book.now.requests (S.files files.now) (turns_of turns.now) q.0 }
@@ -197,6 +197,6 @@ impl Proxy {
         is_parked(book.standing(q))
             && (self.is_interrupted(q)
                 || is_file_step(self.next_kind(q, files))
-                || self.may_take_turn(q, pid, files, turns))
+                || self.may_take_turn(q, files, pid, turns))
     }
 }

@@ -66,21 +66,21 @@ impl Proxy {
 
     /// Gives up the turn of the request that the worker serves.
     #[tactic(auto, unfolding(hybrid_model::specs::Linux::turn_given_up))]
-    pub fn give_up_turn<S: FileStore>(&self, worker: u32, pid: Pid, files: &S, turns: &mut Turns)
+    pub fn give_up_turn<S: FileStore>(&self, worker: u32, files: &S, pid: Pid, turns: &mut Turns)
         ensures { turns_of turns.new ≡ events.turn_given_up pid.0 (linux_of self.now) (S.files files.now) worker (turns_of turns.old) }
     {
         let q = self.serves(worker);
-        turns.give_up(self.pipe_end(q, files), pid, q);
+        turns.give_up(pid, q, self.pipe_end(q, files));
     }
 
     /// Gives the request, which is to wait for a worker again, the turn of its pipe's end, where its step is ready and no other has it.
     #[tactic(auto, unfolding(hybrid_model::specs::Linux::turns_after_unpark))]
-    pub fn take_turn<S: FileStore>(&self, q: Req, pid: Pid, files: &S, turns: &mut Turns)
+    pub fn take_turn<S: FileStore>(&self, q: Req, files: &S, pid: Pid, turns: &mut Turns)
         requires { HasTurnRoom turns.old }
         ensures { turns_of turns.new ≡ events.turns_after_unpark pid.0 (linux_of self.now) (S.files files.now) (turns_of turns.old) q.0 }
     {
-        if self.may_take_turn(q, pid, files, turns) {
-            turns.take(self.pipe_end(q, files), pid, q);
+        if self.may_take_turn(q, files, pid, turns) {
+            turns.take(pid, q, self.pipe_end(q, files));
         }
     }
 }

@@ -37,6 +37,20 @@ impl Proxy {
         }
     }
 
+    /// The mirror of the process's table.
+    pub fn mirror(&self) -> &Mirror
+        ensures { result.now.map ≡ (linux_of self.now).mirror }
+    {
+        &self.mirror
+    }
+
+    /// The pins of the workers.
+    pub fn pins(&self) -> &Pins
+        ensures { result.now ≡ (linux_of self.now).pins }
+    {
+        &self.pins
+    }
+
     /// Makes room for the service of one more request. The proxy shows the same, also where memory lacks.
     pub fn reserve_service(&mut self) -> Result<(), NoMemory>
         ensures same { linux_of self.new ≡ linux_of self.old }

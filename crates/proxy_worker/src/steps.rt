@@ -34,7 +34,7 @@ impl Service {
     }
 
     /// Keeps the answer of the call, where it has ended.
-    fn keep_answer(&mut self, ended: Option<i64>)
+    pub(crate) fn keep_answer(&mut self, ended: Option<i64>)
         ensures { self.new ≡ record self.old { answer = events.answer_if ended self.old.answer } }
     {
         if let Some(answer) = ended {
@@ -44,7 +44,7 @@ impl Service {
 }
 
 /// The request, which is held, has ended or goes on.
-fn step_book(book: &mut Book, q: Req, ended: Option<i64>)
+pub(crate) fn step_book(book: &mut Book, q: Req, ended: Option<i64>)
     requires { state_of book.old.requests q.0 ≡ states.Held }
     ensures { book.new.requests ≡ sides.with_state book.old.requests q.0 (state_if ended) }
 {
@@ -55,7 +55,7 @@ fn step_book(book: &mut Book, q: Req, ended: Option<i64>)
 
 impl Proxy {
     /// The worker makes the file step of its request's call.
-    pub fn act<S: FileStore>(&mut self, worker: u32, pid: Pid, files: &mut S, book: &mut Book)
+    pub fn act<S: FileStore>(&mut self, worker: u32, files: &mut S, pid: Pid, book: &mut Book)
         requires may { may_act (linux_of self.old) book.old.requests (S.files files.old) worker ≡ true }
         requires service { HasService self.old (sides.serves (linux_of self.old) worker) }
         requires room { HasActRoom (S.room files.old) (S.can_write files.old) (S.files files.old) self.old worker }

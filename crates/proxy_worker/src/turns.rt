@@ -50,7 +50,7 @@ impl Turns {
     }
 
     /// Whether the request of the process has the turn of the end.
-    fn is_for(&self, end: u64, pid: Pid, request: Req) -> bool
+    fn is_for(&self, pid: Pid, request: Req, end: u64) -> bool
         ensures { result ≡ is_turn_for pid.0 request.0 (at (turns_of self.now) end) }
     {
         match self.look(end) {
@@ -60,21 +60,21 @@ impl Turns {
     }
 
     /// Whether another request has the turn of the end.
-    pub fn other_has_turn(&self, end: Option<u64>, pid: Pid, request: Req) -> bool
+    pub fn other_has_turn(&self, pid: Pid, request: Req, end: Option<u64>) -> bool
         ensures { result ≡ events.other_has_turn (turns_of self.now) end pid.0 request.0 }
     {
         match end {
-            Some(end) => self.look(end).is_some() && !self.is_for(end, pid, request),
+            Some(end) => self.look(end).is_some() && !self.is_for(pid, request, end),
             None => false,
         }
     }
 
     /// Gives up the turn of the end, where the request has it.
-    pub fn give_up(&mut self, end: Option<u64>, pid: Pid, request: Req)
+    pub fn give_up(&mut self, pid: Pid, request: Req, end: Option<u64>)
         ensures { turns_of self.new ≡ without_turn pid.0 request.0 end (turns_of self.old) }
     {
         if let Some(end) = end {
-            if self.is_for(end, pid, request) {
+            if self.is_for(pid, request, end) {
                 self.drop_turn(end);
             }
         }
@@ -89,7 +89,7 @@ impl Turns {
     }
 
     /// Gives the request the turn of the end.
-    pub fn take(&mut self, end: Option<u64>, pid: Pid, request: Req)
+    pub fn take(&mut self, pid: Pid, request: Req, end: Option<u64>)
         requires { HasTurnRoom self.old }
         ensures { turns_of self.new ≡ with_turn pid.0 request.0 end (turns_of self.old) }
     {
