@@ -51,6 +51,13 @@ impl Proxy {
         &self.pins
     }
 
+    /// How many Clears were fetched.
+    pub fn cleared(&self) -> u64
+        ensures { result ≡ (linux_of self.now).cleared }
+    {
+        self.cleared
+    }
+
     /// Makes room for the service of one more request. The proxy shows the same, also where memory lacks.
     pub fn reserve_service(&mut self) -> Result<(), NoMemory>
         ensures same { linux_of self.new ≡ linux_of self.old }

@@ -73,7 +73,7 @@ fn fetch_clear(
     book: &mut Book,
     round: &mut Round,
 ) {
-    if round.now().is_none() {
+    if round.now().is_none() && proxy.cleared() < 9 {
         round.begin(range);
         proxy.fetch(alloc, &Msg::Clear(range), book, round);
     }
@@ -106,6 +106,10 @@ fn a_worker_faults_and_pins(rt: HostRuntime) -> Result<(), Fail> {
     )?;
     assert!(rt; proxy.holds(0, &book));
     assert_eq!(rt; proxy.mirror().look(1, Access::Read), Some(row));
+    let range = PageRange { lo: 1, hi: 2 };
+    fetch_clear(&mut proxy, rt.alloc(), range, &mut book, &mut round);
+    assert_eq!(rt; proxy.mirror().look(1, Access::Read), None);
+    assert!(rt; proxy.may_ack_clear(&round));
     Ok(())
 }
 
