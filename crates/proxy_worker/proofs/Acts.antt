@@ -6,14 +6,14 @@ use Rattle.hybrid_model.specs.Linux.{acted, is_free_to_act, kind_for, may_act, s
 use Rattle.hybrid_model.specs.Sides.{Book, Service, serves, served, service_of, state_in, state_of, stated, with_service, with_state}
 use Rattle.ikc_ring.specs.declared.Call.{Call}
 use Rattle.kernel_model.specs.Progress.{After, is_file_step, next_kind, take_file_step}
-use Rattle.mck_word.specs.Maps.{Map, at, put}
+use Rattle.mck_word.specs.Maps.{at, put}
 use Rattle.proxy_worker.proofs.Parts.{put-same, service-changed, service-there, with-services}
 use Rattle.proxy_worker.specs.Shown.{linux_of, services_of, shown_service}
 use Rattle.proxy_worker.specs.declared.proxy.Proxy.{Proxy}
 use Rattle.proxy_worker.specs.declared.services.Service.{Service as ServiceOf}
 use Rattle.request_book.specs.declared.ReqState.{ReqState}
 use Rattle.request_book.specs.declared.ReqState.TheVariants.{Held, Replied}
-use Rattle.std.proofs.Common.{ap, arith, refl, subst, sym, ◌∙◌}
+use Rattle.std.proofs.Common.{ap, arith, refl, sym, ◌∙◌}
 use Rattle.std.specs.Prelude.{Bool, None, Option, Some, false, is_some, true, ℕ, ℤ, ◌&&◌, ◌≡◌}
 
 pub both : (a b : Bool) → (a && b) ≡ true → (a ≡ true) × (b ≡ true)

@@ -1,6 +1,6 @@
 -- The parts of a Linux side that a proxy shows.
 use Rattle.hybrid_model.specs.Sides.{Service, no_service, service_of}
-use Rattle.mck_word.specs.EachLaws.{at-each, each-put, each-cut}
+use Rattle.mck_word.specs.EachLaws.{at-each, each-put}
 use Rattle.mck_word.specs.MapLaws.{at-cut, at-none, at-put, same_rows}
 use Rattle.mck_word.specs.Maps.{Map, at, cut, no_rows, put}
 use Rattle.mck_word.specs.Slots.{at-slots, by_place}
@@ -11,7 +11,7 @@ use Rattle.proxy_worker.specs.declared.services.Service.{Service as ServiceOf}
 use Rattle.std.proofs.Common.{Bor, ap, arith, refl, subst, sym, ◌∙◌}
 use Rattle.std.proofs.lemmas.Bool.Decides.{nat_tests}
 use Rattle.std.specs.Option.{option_copied}
-use Rattle.std.specs.Prelude.{zero, suc, is_some, Bool, cond, false, true, ◌==◌, List, None, Option, Some, [], IsSome, MatchOption, option_map, replicate, slice_index_or, unwrap_or, ℕ, ◌∷◌, ◌≡◌}
+use Rattle.std.specs.Prelude.{zero, suc, is_some, Bool, cond, false, true, ◌==◌, List, None, Option, Some, IsSome, MatchOption, option_map, replicate, slice_index_or, unwrap_or, ℕ, ◌≡◌}
 
 module _ {V : Type 0} where
   abbrev pub empties : ℕ → List (Option V)

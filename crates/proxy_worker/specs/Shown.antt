@@ -1,5 +1,4 @@
 -- The Linux side of a process that a proxy shows, and the turns that the turns of pipes show.
-use Rattle.call_progress.specs.Kept.{Kept}
 use Rattle.hybrid_model.specs.Sides.{LinuxSide, Service, Turn}
 use Rattle.mck_word.specs.Maps.{Map, each}
 use Rattle.proxy_worker.specs.declared.proxy.Proxy.{Proxy}

@@ -176,11 +176,16 @@ impl Proxy {
     }
 
     /// Whether the request's step is ready, and no other request has the turn of that end.
-    pub(crate) fn may_take_turn<S: FileStore>(&self, q: Req, files: &S, pid: Pid, turns: &Turns) -> bool
+    pub(crate) fn may_take_turn<S: FileStore>(
+        &self,
+        q: Req,
+        files: &S,
+        pid: Pid,
+        turns: &Turns,
+    ) -> bool
         ensures { result ≡ events.may_take_turn pid.0 (linux_of self.now) (S.files files.now) (turns_of turns.now) q.0 }
     {
-        is_ready(self.next_kind(q, files))
-            && !turns.other_has_turn(pid, q, self.pipe_end(q, files))
+        is_ready(self.next_kind(q, files)) && !turns.other_has_turn(pid, q, self.pipe_end(q, files))
     }
 
     /// Whether the parked request may wait for a worker again.

@@ -96,14 +96,7 @@ fn a_worker_faults_and_pins(rt: HostRuntime) -> Result<(), Fail> {
     }
     assert!(rt; !proxy.holds(0, &book));
     let row = (Frame(7), Rights::READ);
-    fetch_row(
-        &mut proxy,
-        rt.alloc(),
-        0,
-        row,
-        &mut book,
-        &mut round,
-    )?;
+    fetch_row(&mut proxy, rt.alloc(), 0, row, &mut book, &mut round)?;
     assert!(rt; proxy.holds(0, &book));
     assert_eq!(rt; proxy.mirror().look(1, Access::Read), Some(row));
     let range = PageRange { lo: 1, hi: 2 };
