@@ -1,3 +1,4 @@
 pub mod Parts
 pub mod Acts
-pub mod Copies
+pub mod PiecesCopied
+pub mod RoomMade

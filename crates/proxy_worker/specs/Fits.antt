@@ -1,5 +1,5 @@
 -- What coherence gives an event that a proxy takes.
-use Rattle.call_progress.specs.Streams.{HasRoomForStep}
+use Rattle.call_progress.specs.Streams.{HasRoomForPiece, HasRoomForStep}
 use Rattle.clear_rounds.specs.Round.{phase_of}
 use Rattle.clear_rounds.specs.declared.Phase.TheVariants.{Posted as RoundPosted}
 use Rattle.file_calls.specs.Rooms.{Room}
@@ -38,3 +38,7 @@ FetchFits (Fault w page a) p b o = Unit {0}
 -- the file step of the worker's request takes no memory
 abbrev pub HasActRoom : Room → (Target → ℕ → Type 0) → Files → Proxy → ℕ → Type 0
 HasActRoom room can_write files p w = (k : ServiceOf) → at p.services.map (serves (linux_of p) w) ≡ Some k → HasRoomForStep room can_write files k.progress
+
+-- the next piece of the worker's request takes no memory
+abbrev pub HasCopyRoom : Room → (Target → ℕ → Type 0) → Files → Proxy → ℕ → Type 0
+HasCopyRoom room can_write files p w = (k : ServiceOf) → at p.services.map (serves (linux_of p) w) ≡ Some k → HasRoomForPiece room can_write files k.progress

@@ -3,10 +3,9 @@ ghost use Rattle.std.specs.Prelude.{◌≡◌, ◌<◌, ◌+◌, ◌-◌, ◌^�
 ghost use Rattle.clear_rounds.specs.Round.{phase_of};
 ghost use Rattle.clear_rounds.specs.declared.Phase.{Phase as phase};
 ghost use Rattle.hybrid_model.specs.Linux as events;
-ghost use Rattle.hybrid_model.specs.Linux.{fetch_message, fetched_as, is_ended_or_replied, phases_in};
+ghost use Rattle.hybrid_model.specs.Linux.{fetch_message, fetched_as, is_ended_or_replied};
 ghost use Rattle.hybrid_model.specs.Sides as sides;
 ghost use Rattle.hybrid_model.specs.Sides.{state_of};
-ghost use Rattle.kernel_model.specs.Plans as plans;
 ghost use Rattle.kernel_model.specs.Progress.{fault_answer};
 ghost use Rattle.mck_word.specs.Maps.{keep};
 ghost use Rattle.mck_word.specs.Pages.{in_range};
@@ -17,7 +16,6 @@ ghost use Rattle.request_book.specs.declared.ReqState.{ReqState as states};
 
 use crate::proxy::Proxy;
 use crate::services::Service;
-use call_plan::{Phases, Plan, Stages, plan};
 use call_progress::Progress;
 use clear_rounds::Round;
 use ikc_ring::{Call, Msg};
@@ -25,16 +23,6 @@ use mck_flags::Rights;
 use mck_word::{Frame, PageRange, Req};
 use request_book::{Book, ReqState};
 use std::alloc::Global;
-
-/// The phases of a call that was delegated.
-fn phases_of(call: &Call) -> Phases
-    ensures { result ≡ phases_in (plans.plan call.now.number call.now.args) }
-{
-    match plan(call.number, &call.args) {
-        Plan::Delegated(phases) => phases,
-        _ => Phases::without_ranges(Stages::Over),
-    }
-}
 
 /// Whether nothing is to be done any more for a request in the state.
 fn is_over(state: ReqState) -> bool
@@ -51,7 +39,7 @@ impl Proxy {
         ensures linux { linux_of self.new ≡ sides.with_service (linux_of self.old) call.now.q.0 (events.new_service call.now) }
         ensures book { book.new.requests ≡ queued call.now.q.0 book.old.requests }
     {
-        let progress = Progress::starting(alloc, call.number, &call.args, phases_of(call));
+        let progress = Progress::of_call(alloc, call.number, &call.args);
         self.services.put(
             call.q.0,
             Service {

@@ -6,12 +6,14 @@
 //! `make_room_for_..`, take memory; an event takes none and cannot fail. Proxies, workers and turns are this project's own.
 #![tactic(auto)]
 
+pub mod copies;
 pub mod fetch;
 pub mod lookups;
 mod may;
 pub mod moves;
 pub mod parks;
 pub mod proxy;
+pub mod rooms;
 pub mod services;
 pub mod steps;
 pub mod turns;
