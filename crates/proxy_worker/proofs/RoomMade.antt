@@ -8,9 +8,9 @@ use Rattle.proxy_worker.specs.Fits.{HasService}
 use Rattle.proxy_worker.specs.Shown.{linux_of, services_of, shown_service}
 use Rattle.proxy_worker.specs.declared.proxy.Proxy.{Proxy}
 use Rattle.proxy_worker.specs.declared.services.Service.{Service as ServiceOf}
-use Rattle.std.proofs.Common.{ap, arith, refl, subst, sym, ◌∙◌}
+use Rattle.std.proofs.Common.{ap, arith, subst, sym, ◌∙◌}
 use Rattle.std.proofs.lemmas.Bool.Decides.{nat_tests}
-use Rattle.std.specs.Prelude.{IsSome, Option, Some, cond, is_some, option_map, true, ℕ, ◌==◌, ◌≡◌}
+use Rattle.std.specs.Prelude.{Some, cond, is_some, option_map, true, ℕ, ◌==◌, ◌≡◌}
 
 -- a service that shows the same
 pub room-linux : (p : Proxy) (q : ℕ) (k n : ServiceOf) (spare : ℕ) → at p.services.map q ≡ Some k → shown_service n ≡ shown_service k

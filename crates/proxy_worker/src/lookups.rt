@@ -19,6 +19,16 @@ use mck_flags::Rights;
 use mck_word::{Access, Frame, Piece, Req};
 
 impl Proxy {
+    /// The request that the worker serves: None exactly where it serves none.
+    pub fn request(&self, worker: u32) -> Option<Req>
+        ensures { option_map (λ q. q.0) result ≡ at (linux_of self.now).workers worker }
+    {
+        match self.workers.of(worker) {
+            Some(q) => Some(Req(q)),
+            None => None,
+        }
+    }
+
     /// The request that the worker serves, or 0.
     pub fn serves(&self, worker: u32) -> Req
         ensures { result.0 ≡ sides.serves (linux_of self.now) worker }

@@ -23,7 +23,10 @@ impl Proxy {
         if !self.has_service(q) {
             return Ok(());
         }
-        self.services.row_mut(q.0).progress.make_room_for_step(files)
+        self.services
+            .row_mut(q.0)
+            .progress
+            .make_room_for_step(files)
     }
 
     /// Makes the room that the next piece of the worker's request needs. The proxy shows the same, and the files have the same
@@ -41,6 +44,9 @@ impl Proxy {
         if !self.has_service(q) {
             return Ok(());
         }
-        self.services.row_mut(q.0).progress.make_room_for_piece(files)
+        self.services
+            .row_mut(q.0)
+            .progress
+            .make_room_for_piece(files)
     }
 }
