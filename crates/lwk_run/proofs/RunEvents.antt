@@ -13,7 +13,7 @@ use Rattle.lwk_tables.specs.Frames.{frames_map}
 use Rattle.lwk_tables.specs.Lacks.{memory}
 use Rattle.mck_word.specs.Maps.{at}
 use Rattle.rv64i_user.specs.Runs.{instrs}
-use Rattle.std.proofs.Common.{ap, refl, sym, ◌∙◌}
+use Rattle.std.proofs.Common.{ap, sym, ◌∙◌}
 use Rattle.std.specs.Prelude.{List, Some, ℕ, ◌≡◌, ◌≤◌}
 
 pub event-after : (n t : ℕ) (h : Here) (x : Thread) (before after : List (List ℕ)) (o : Outcome) → 1 ≤ n → at h.node.threads t ≡ Some x → h.frames ≡ frames_map before
@@ -26,9 +26,9 @@ event-after n t h x before after o some there frames stored did seen =
     let start : memory_here h ≡ m = ap (shown_memory table) frames in
     let begins : ran t n h ≡ run_for n t (record { node = h.node; memory = m }) = ap (λ (w : Memory). run_for n t (record { node = h.node; memory = w })) start in
     let ends : ran t n h ≡ record { node = node_after t o (executed_count n x.regs m) h.node; memory = o.memory } =
-        begins ∙ run-after n t h.node x m some there ∙ ap (λ (e : Outcome). let v : Ran = record { node = node_after t e (executed_count n x.regs m) h.node; memory = e.memory } in v) (sym did) in
+    begins ∙ run-after n t h.node x m some there ∙ ap (λ (e : Outcome). let v : Ran = record { node = node_after t e (executed_count n x.regs m) h.node; memory = e.memory } in v) (sym did) in
     let back : written_back table (ran t n h).memory h.frames ≡ frames_map after =
-        ap (λ (v : Ran). written_back table v.memory h.frames) ends ∙ ap (λ w. written_back table w h.frames) seen ∙ ap (written_back table (memory table after)) frames ∙ sym stored in
+    ap (λ (v : Ran). written_back table v.memory h.frames) ends ∙ ap (λ w. written_back table w h.frames) seen ∙ ap (written_back table (memory table after)) frames ∙ sym stored in
     λ i. ran_last t (record h { node = (ends i).node; frames = back i })
 
 pub event-length : (n t : ℕ) (h : Here) (x : Thread) (before : List (List ℕ)) → at h.node.threads t ≡ Some x → h.frames ≡ frames_map before

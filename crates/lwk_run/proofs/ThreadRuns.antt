@@ -52,9 +52,9 @@ after-first : (t : ℕ) (node : Node) (x : Thread) (e o : Outcome) (k : ℕ) →
 after-first t node x e o k there =
     let p = (thread_of node t).process in
     let same : (thread_of (counted t e node) t).process ≡ p =
-        ap (λ (y : Thread). y.process) (thread-is (counted t e node) t (run_thread e x) (at-change node.threads t (run_thread e) x there)) ∙ sym (ap (λ (y : Thread). y.process) (thread-is node t x there)) in
+    ap (λ (y : Thread). y.process) (thread-is (counted t e node) t (run_thread e x) (at-change node.threads t (run_thread e) x there)) ∙ sym (ap (λ (y : Thread). y.process) (thread-is node t x there)) in
     let processes = ap (λ q. change (change node.processes p (run_process 1)) q (run_process k)) same
-        ∙ change-twice node.processes p (run_process 1) (run_process k) (run_process (suc k)) (more-instructions k) in
+    ∙ change-twice node.processes p (run_process 1) (run_process k) (run_process (suc k)) (more-instructions k) in
     let threads = change-twice node.threads t (run_thread e) (run_thread o) (run_thread o) (λ y. refl) in
     λ i. record node { processes = processes i; threads = threads i }
 

@@ -19,13 +19,17 @@ use std::marker::{Brand, PhantomData};
 /// What a run begins with, for proofs alone: the rows of the table, the frames, and which frames they are.
 pub trait Begun {
     ghost rows: { Map Row };
+
     ghost frames: { List (List ℕ) };
+
     ghost name: { ℕ };
 }
 
 impl Begun for Brand {
     ghost rows = { no_rows };
+
     ghost frames = { [] };
+
     ghost name = { 0 };
 }
 

@@ -73,7 +73,13 @@ pub fn run<T: PageTable>(
     ensures stays { Stays (T.rows space.now.table) frames.old frames.new }
     ensures stored { StoredTo (T.rows space.now.table) frames.old frames.new }
 {
-    let (count, Frames { mem: _ }) =
-        run_lent::<T, Brand>(regs, space, Frames { mem: frames }, known, most, stop);
+    let (count, Frames { mem: _ }) = run_lent::<T, Brand>(
+        regs,
+        space,
+        Frames { mem: frames },
+        known,
+        most,
+        stop,
+    );
     count
 }
