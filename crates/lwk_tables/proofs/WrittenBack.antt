@@ -17,7 +17,7 @@ use Rattle.std.proofs.Common.{ap, arith, inl, inr, refl, sym, ◌∙◌}
 use Rattle.std.proofs.lemmas.Bool.Decides.{nat_tests}
 use Rattle.std.proofs.lemmas.Bool.{cases_lt}
 use Rattle.std.specs.Ordering.{eq_by_cmp, nat_cmp}
-use Rattle.std.specs.Prelude.{Bool, List, None, Option, Some, [], ◌∷◌, cond, false, length, map, slice_index_or, suc, true, zero, ℕ, ◌<◌, ◌==◌, ◌≡◌, ◌≤◌}
+use Rattle.std.specs.Prelude.{Bool, List, None, Some, [], ◌∷◌, cond, false, length, map, slice_index_or, suc, true, zero, ℕ, ◌<◌, ◌==◌, ◌≡◌, ◌≤◌}
 
 -- at a frame, once rows of which each puts what stands there afterwards are written
 written-at : (after : Map (List ℕ)) (m : Memory) (f : ℕ) (es : List (ℕ × Row)) (frames : Map (List ℕ)) → Each (λ (e : ℕ × Row). at after e.1.0.0 ≡ Some (bytes_in (at m e.0))) es

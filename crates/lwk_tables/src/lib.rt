@@ -28,11 +28,10 @@ ghost use Rattle.std.specs.Prelude.{◌≡◌, ◌≤◌, ◌<◌, ◌+◌, ◌^
 
 use bytes::row_at;
 use changes::{add_pages, drop_pages, protect_pages};
-pub use laws::stores_are_written_back;
-
 use frame_mem::FrameMem;
 use frame_pool::FramePool;
 use isa_model::Lack;
+pub use laws::stores_are_written_back;
 use mck_flags::Rights;
 use mck_word::{Access, Frame, NoMemory, PageRange};
 use page_map::PageTable;
