@@ -1,4 +1,5 @@
 pub mod BytesRead
 pub mod BytesWritten
+pub mod Filled
 pub mod OnePage
 pub mod RowSets
