@@ -1,0 +1,4 @@
+pub mod Copies
+pub mod GuestPages
+pub mod LeftOver
+pub mod TopBytes

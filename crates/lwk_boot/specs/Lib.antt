@@ -1,0 +1,4 @@
+pub mod Guests
+pub mod Order
+pub mod Rooms
+pub mod Top
