@@ -124,7 +124,7 @@ bare-high image is p a =
 
 -- ---- the stack's top
 
-length-little : (n x : ℕ) → length (little_endian n x) ≡ n
+pub length-little : (n x : ℕ) → length (little_endian n x) ≡ n
 length-little zero x = refl
 length-little (suc n) x = ap suc (length-little n (x / 256))
 
@@ -136,7 +136,7 @@ length-words (w ∷ ws) = length-both (little_endian 8 w) (flat_map (little_endi
     length-both [] ys = omega arith
     length-both (x ∷ xs) ys = let rest = length-both xs ys in omega arith
 
-length-with-zero : (xs : List ℕ) → length (xs ++ 0 ∷ []) ≡ length xs + 1
+pub length-with-zero : (xs : List ℕ) → length (xs ++ 0 ∷ []) ≡ length xs + 1
 length-with-zero [] = refl
 length-with-zero (x ∷ xs) = let rest = length-with-zero xs in omega arith
 

@@ -62,7 +62,7 @@ length-count : (n k : ℕ) → length (count_from n k) ≡ k
 length-count n zero = refl
 length-count n (suc k) = ap suc (length-count (n + 1) k)
 
-length-both : (xs ys : List ℕ) → length (xs ++ ys) ≡ length xs + length ys
+pub length-both : (xs ys : List ℕ) → length (xs ++ ys) ≡ length xs + length ys
 length-both [] ys = omega arith
 length-both (x ∷ xs) ys = let rest = length-both xs ys in omega arith
 

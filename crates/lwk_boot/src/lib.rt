@@ -6,6 +6,10 @@
 //! what the arguments are.
 #![tactic(auto)]
 
+mod order;
+mod room;
 mod sizes;
+mod stack;
 
 pub use sizes::{heap_base, needed_frames, segment_range};
+pub use stack::{guest_regs, stack_top};
