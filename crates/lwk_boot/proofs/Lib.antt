@@ -1,5 +1,6 @@
 pub mod Copies
 pub mod GuestPages
+pub mod InOrder
 pub mod LeftOver
 pub mod TopBytes
 pub mod TopLoops
