@@ -6,10 +6,12 @@
 //! what the arguments are.
 #![tactic(auto)]
 
+mod load;
 mod order;
 mod room;
 mod sizes;
 mod stack;
 
+pub use load::load_guest;
 pub use sizes::{heap_base, needed_frames, segment_range};
 pub use stack::{guest_regs, stack_top};
