@@ -1,12 +1,12 @@
 -- Where the pages of a guest's memory are, and what they hold.
 use Rattle.frame_mem.specs.Pages.{written}
 use Rattle.isa_model.specs.Memory.{Memory, Page, write_bytes}
-use Rattle.job_model.specs.Images.{IsImage, IsSegment, SharesNoPage}
+use Rattle.job_model.specs.Images.{IsImage, IsSegment}
 use Rattle.job_model.specs.declared.image.Image.{Image}
 use Rattle.job_model.specs.declared.image.Segment.{Segment}
 use Rattle.kernel_model.specs.Layout.{add_segment, add_stack, add_trampoline, addresses_from, auxiliary_bytes, guest_memory, page_with, segment_page, stack_pointer, stack_words, strings, strings_address}
 use Rattle.kernel_model.specs.MemoryCalls.{rights_of_prot}
-use Rattle.kernel_model.specs.Pages.{page_number, zero_page}
+use Rattle.kernel_model.specs.Pages.{zero_page}
 use Rattle.lwk_boot.proofs.Copies.{at-other, at-same}
 use Rattle.lwk_boot.proofs.TopBytes.{length-written}
 use Rattle.lwk_boot.specs.Guests.{AreArguments, HasSegments, first_page, last_end, no_segment, segment_at, stack_first, stack_last, trampoline_page}
@@ -15,13 +15,13 @@ use Rattle.lwk_tables.proofs.BytesWritten.{write-in-page}
 use Rattle.lwk_tables.specs.Fills.{placed}
 use Rattle.mck_word.specs.Lists.{count_from}
 use Rattle.mck_word.specs.MapLaws.{at-none}
-use Rattle.mck_word.specs.Maps.{Map, at, no_rows, put}
+use Rattle.mck_word.specs.Maps.{at, no_rows, put}
 use Rattle.mck_word.specs.Words.{little_endian}
 use Rattle.std.proofs.Common.{ap, arith, inl, inr, refl, sym, ◌∙◌}
 use Rattle.std.proofs.lemmas.Bool.{cases_eq, cases_lt}
 use Rattle.std.proofs.lemmas.List.Concat.{length-flat_map}
 use Rattle.std.proofs.lemmas.List.{length-replicate, take-append-le, take-replicate}
-use Rattle.std.specs.Prelude.{List, None, Option, Some, [], ◌∷◌, ◌++◌, drop, flat_map, fold, length, replicate, suc, sum_by, take, zero, ℕ, ◌*◌, ◌+◌, ◌-◌, ◌/◌, ◌<◌, ◌≡◌, ◌≢◌, ◌≤◌}
+use Rattle.std.specs.Prelude.{List, None, Some, [], ◌∷◌, ◌++◌, drop, flat_map, fold, length, replicate, suc, sum_by, take, zero, ℕ, ◌*◌, ◌+◌, ◌-◌, ◌/◌, ◌<◌, ◌≡◌, ◌≢◌, ◌≤◌}
 
 -- ---- one range of pages
 
@@ -160,11 +160,11 @@ pub record Places (arguments : List (List ℕ)) : Type 0 where
   pub words_fit : words_place arguments + 8 * (length arguments + 17) ≤ 0xff0
 
 places-of : (n m : ℕ) → n ≤ 1024 → m ≤ 64 → record {
-    at : 0x3fffffeff0 - n ≡ 0x3fffffe * 4096 + (0xff0 - n);
-    fit : 0xff0 - n + n ≡ 0xff0;
-    words : (0x3fffffeff0 - n - 8 * (m + 17)) / 16 * 16 ≡ 0x3fffffe * 4096 + ((0x3fffffeff0 - n - 8 * (m + 17)) / 16 * 16 - 0x3fffffe000);
-    below : (0x3fffffeff0 - n - 8 * (m + 17)) / 16 * 16 - 0x3fffffe000 + 8 * (m + 17) ≤ 0xff0;
-  }
+  at : 0x3fffffeff0 - n ≡ 0x3fffffe * 4096 + (0xff0 - n);
+  fit : 0xff0 - n + n ≡ 0xff0;
+  words : (0x3fffffeff0 - n - 8 * (m + 17)) / 16 * 16 ≡ 0x3fffffe * 4096 + ((0x3fffffeff0 - n - 8 * (m + 17)) / 16 * 16 - 0x3fffffe000);
+  below : (0x3fffffeff0 - n - 8 * (m + 17)) / 16 * 16 - 0x3fffffe000 + 8 * (m + 17) ≤ 0xff0;
+}
 places-of n m a b = record { at = omega arith; fit = omega arith; words = omega arith; below = omega arith }
 
 pub places : (arguments : List (List ℕ)) → AreArguments arguments → Places arguments
@@ -197,10 +197,13 @@ unfolding guest_memory top_page
 guest-is image arguments are =
     let p = places arguments are in
     let ws = flat_map (little_endian 8) (stack_words image arguments) in
-    let many : length ws ≡ 8 * (length arguments + 17) = length-words (stack_words image arguments) ∙ ap (λ n. 8 * n) (length-stack image arguments) in
-    (_, _, top-written (bare image) stack_last stack_page (count_from 0 16) (strings arguments) ws auxiliary_bytes (strings_address arguments) (stack_pointer arguments)
-    0xff0 (strings_place arguments) (words_place arguments) (bare-stack image stack_last (omega arith) (omega arith)) (length-replicate {A = ℕ} 4096 0)
-    refl (omega arith) p.strings_at (omega (arith, p.strings_fit)) p.words_at (omega (arith, p.words_fit)))
+    let many : length ws ≡ 8 * (length arguments + 17) = length-words (stack_words image arguments) ∙ ap (λ n. 8 * n) (length-stack image arguments) in (
+      _,
+      _,
+      top-written (bare image) stack_last stack_page (count_from 0 16) (strings arguments) ws auxiliary_bytes (strings_address arguments) (stack_pointer arguments)
+          0xff0 (strings_place arguments) (words_place arguments) (bare-stack image stack_last (omega arith) (omega arith)) (length-replicate {A = ℕ} 4096 0)
+          refl (omega arith) p.strings_at (omega (arith, p.strings_fit)) p.words_at (omega (arith, p.words_fit)),
+    )
 
 guest-other : (image : Image) (arguments : List (List ℕ)) → AreArguments arguments → (p : ℕ) → p ≢ stack_last → at (guest_memory image arguments) p ≡ at (bare image) p
 guest-other image arguments are p o =

@@ -2,20 +2,19 @@
 use Rattle.job_model.specs.Images.{IsImage, IsSegment}
 use Rattle.job_model.specs.declared.image.Image.{Image}
 use Rattle.job_model.specs.declared.image.Segment.{Segment}
-use Rattle.kernel_model.specs.Pages.{pages_of, range}
+use Rattle.kernel_model.specs.Pages.{pages_of}
 use Rattle.lwk_boot.proofs.GuestPages.{pages-apart}
 use Rattle.lwk_boot.proofs.LeftOver.{left-next}
-use Rattle.lwk_boot.specs.Guests.{first_page, last_end, no_segment, segment_at, stack_first}
+use Rattle.lwk_boot.specs.Guests.{first_page, last_end, no_segment, segment_at}
 use Rattle.lwk_boot.specs.Order.{AreBefore, IsNext, NoneLeft, left}
 use Rattle.lwk_boot.specs.Rooms.{LieBelow, LieIn, RiseTo, top_range}
-use Rattle.lwk_tables.specs.Rows.{LiesIn}
 use Rattle.mck_word.specs.Pages.{in_range, in_ranges}
 use Rattle.mck_word.specs.declared.PageRange.{PageRange}
 use Rattle.page_map.specs.Tables.{RiseFrom}
-use Rattle.std.proofs.Common.{ap, arith, inl, inr, refl, subst, sym, ◌∙◌}
+use Rattle.std.proofs.Common.{ap, arith, inl, inr, refl, ◌∙◌}
 use Rattle.std.proofs.lemmas.Bool.{cases_eq, cases_lt, le-leb, lt-ltb}
 use Rattle.std.proofs.lemmas.List.{get_or_default}
-use Rattle.std.specs.Prelude.{Bool, IsTrue, List, [], ◌∷◌, ◌++◌, false, length, slice_index_or, true, ℕ, ◌+◌, ◌/◌, ◌<◌, ◌^◌, ◌||◌, ◌≡◌, ◌≢◌, ◌≤◌}
+use Rattle.std.specs.Prelude.{Bool, IsTrue, List, [], ◌∷◌, ◌++◌, false, length, slice_index_or, true, ℕ, ◌+◌, ◌<◌, ◌^◌, ◌||◌, ◌≡◌, ◌≢◌, ◌≤◌}
 
 -- a segment has a page, and ends below the stack
 pub record Ends (s : Segment) : Type 0 where

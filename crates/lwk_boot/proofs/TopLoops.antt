@@ -3,11 +3,11 @@ use Rattle.frame_mem.specs.Pages.{written}
 use Rattle.kernel_model.specs.Layout.{addresses_from, strings}
 use Rattle.lwk_boot.proofs.GuestPages.{length-little, length-with-zero, length-words}
 use Rattle.lwk_boot.proofs.LeftOver.{drop-here, drop-past, length-both}
-use Rattle.lwk_boot.proofs.TopBytes.{length-written, written-more, written-nothing}
+use Rattle.lwk_boot.proofs.TopBytes.{length-written, written-more}
 use Rattle.mck_word.specs.Words.{little_endian}
 use Rattle.std.proofs.Common.{ap, arith, refl, sym, ◌∙◌}
 use Rattle.std.proofs.lemmas.Grind.{flat_map-append}
-use Rattle.std.specs.Prelude.{List, [], ◌∷◌, ◌++◌, drop, flat_map, length, slice_index_or, suc, zero, ℕ, ◌*◌, ◌+◌, ◌<◌, ◌≡◌, ◌≤◌}
+use Rattle.std.specs.Prelude.{List, [], ◌∷◌, ◌++◌, drop, flat_map, length, slice_index_or, suc, ℕ, ◌*◌, ◌+◌, ◌<◌, ◌≡◌, ◌≤◌}
 
 -- ---- strings
 

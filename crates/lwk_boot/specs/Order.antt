@@ -1,7 +1,7 @@
 -- The next segment in rising order, and how much is left.
 use Rattle.job_model.specs.declared.image.Segment.{Segment}
 use Rattle.lwk_boot.specs.Guests.{first_page, last_end, segment_at}
-use Rattle.std.specs.Prelude.{List, None, Option, Some, [], ◌∷◌, cond, length, nat_le, ℕ, ◌+◌, ◌-◌, ◌<◌, ◌≤◌}
+use Rattle.std.specs.Prelude.{List, [], ◌∷◌, cond, length, nat_le, ℕ, ◌+◌, ◌-◌, ◌<◌, ◌≤◌}
 
 -- the segment at the place begins at the page or above, and none of those is below it
 pub record IsNext (segments : List Segment) (page k : ℕ) : Type 0 where

@@ -139,15 +139,7 @@ fn load_top<T: PageTable>(
 {
     let top = stack_top(image, arguments);
     map_next(guest, &STACK, Rights(3), 0, &[], mem, pool);
-    map_next(
-        guest,
-        &STACK_LAST,
-        Rights(3),
-        TOP_ADDRESS,
-        &top,
-        mem,
-        pool,
-    );
+    map_next(guest, &STACK_LAST, Rights(3), TOP_ADDRESS, &top, mem, pool);
     map_next(
         guest,
         &TRAMPOLINE,

@@ -158,8 +158,5 @@ pub fn guest_regs(image: &Image, arguments: &[Bytes]) -> Regs
 {
     let mut x = [0; 32];
     x[2] = first_pointer(arguments);
-    Regs {
-        pc: image.entry,
-        x,
-    }
+    Regs { pc: image.entry, x }
 }

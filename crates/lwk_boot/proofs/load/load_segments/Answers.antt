@@ -13,7 +13,7 @@ use Rattle.mck_word.specs.MapLaws.{at-none}
 use Rattle.mck_word.specs.Maps.{Map, at, entries}
 use Rattle.mck_word.specs.declared.PageRange.{PageRange}
 use Rattle.hybrid_model.specs.Sides.{Row}
-use Rattle.std.proofs.Common.{◌≡◌, ◌+◌, ◌<◌, ◌≤◌, List, ap, arith, length, refl, subst, sym, ◌∙◌}
+use Rattle.std.proofs.Common.{◌≡◌, ◌<◌, ◌≤◌, List, ap, arith, length, refl, subst, sym, ◌∙◌}
 use Rattle.lwk_boot.proofs.load.load_segments.Goals as goal
 
 pub loop-k-init : goal.loop-k-init

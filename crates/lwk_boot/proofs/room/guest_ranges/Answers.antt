@@ -6,7 +6,7 @@ use Rattle.lwk_boot.specs.Order.{IsNext, NoneLeft, left, one_each}
 use Rattle.lwk_boot.specs.Rooms.{LieBelow, LieIn, RiseTo, top_range}
 use Rattle.mck_word.specs.declared.PageRange.{PageRange}
 use Rattle.page_map.specs.Tables.{AreRanges}
-use Rattle.std.proofs.Common.{◌≡◌, ◌+◌, ◌<◌, ◌++◌, ◌∷◌, [], List, ap, arith, length, subst, sym, ◌∙◌}
+use Rattle.std.proofs.Common.{◌≡◌, ◌<◌, ◌++◌, ◌∷◌, [], List, ap, arith, subst, sym, ◌∙◌}
 use Rattle.lwk_boot.proofs.room.guest_ranges.Goals as goal
 
 pub loop-k-smaller : goal.loop-k-smaller

@@ -1,7 +1,7 @@
 use Rattle.job_model.specs.declared.image.Segment.{Segment}
 use Rattle.kernel_model.specs.Layout.{segment_end}
 use Rattle.lwk_boot.proofs.LeftOver.{drop-past}
-use Rattle.std.proofs.Common.{◌≡◌, ◌+◌, ◌*◌, ◌/◌, ap, arith, sym, ◌∙◌}
+use Rattle.std.proofs.Common.{◌+◌, ◌*◌, ◌/◌, ap, arith, sym, ◌∙◌}
 use Rattle.std.specs.Prelude.{fold, max, ℕ}
 use Rattle.lwk_boot.proofs.sizes.heap_base.Goals as goal
 

@@ -1,7 +1,7 @@
 use Rattle.frame_mem.specs.Pages.{written}
 use Rattle.lwk_boot.proofs.TopLoops.{length-with-word, words-step}
 use Rattle.mck_word.specs.Words.{little_endian}
-use Rattle.std.proofs.Common.{◌≡◌, ◌+◌, ◌∷◌, ◌*◌, ap, arith, drop, length, suc, sym, ◌∙◌}
+use Rattle.std.proofs.Common.{◌≡◌, ◌+◌, ◌∷◌, ap, arith, drop, length, suc, sym, ◌∙◌}
 use Rattle.std.proofs.Math.Seq.{drop-cons}
 use Rattle.std.proofs.lemmas.List.{length-drop}
 use Rattle.std.specs.Prelude.{flat_map, slice_index}

@@ -1,6 +1,6 @@
 use Rattle.lwk_boot.proofs.GuestPages.{length-strings}
 use Rattle.lwk_boot.proofs.TopLoops.{strings-here, strings-none}
-use Rattle.std.proofs.Common.{◌≡◌, ◌+◌, ap, arith, length, ◌∙◌}
+use Rattle.std.proofs.Common.{ap, arith, length}
 use Rattle.lwk_boot.proofs.stack.strings_len.Goals as goal
 
 pub overflow_add-len-in-loop-argument : goal.overflow_add-len-in-loop-argument

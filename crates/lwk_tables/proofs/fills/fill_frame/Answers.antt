@@ -1,6 +1,6 @@
 use Rattle.lwk_tables.proofs.Filled.{filled-frame}
-use Rattle.std.proofs.Common.{◌≡◌, ◌+◌, ◌-◌, ◌*◌, ap, arith, drop, length, take, ◌∙◌}
-use Rattle.std.specs.Prelude.{min, slice_index_or, slice_set, [], replicate}
+use Rattle.std.proofs.Common.{◌≡◌, ◌+◌, ◌-◌, arith, drop, take, ◌∙◌}
+use Rattle.std.specs.Prelude.{slice_index_or, slice_set, []}
 use Rattle.frame_mem.specs.Pages.{written}
 use Rattle.lwk_tables.proofs.fills.fill_frame.Goals as goal
 
