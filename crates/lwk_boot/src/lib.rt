@@ -11,6 +11,8 @@ mod order;
 mod room;
 mod sizes;
 mod stack;
+#[cfg(test)]
+mod tests;
 
 pub use load::load_guest;
 pub use sizes::{heap_base, needed_frames, segment_range};
