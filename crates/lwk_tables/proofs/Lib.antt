@@ -1,6 +1,7 @@
 pub mod BytesRead
 pub mod BytesWritten
 pub mod MapRows
+pub mod Filled
 pub mod OnePage
 pub mod RowSets
 pub mod WrittenBack

@@ -1,6 +1,7 @@
 //! The space of a process: its page table, its mapped pages and its break, over the frames of the node.
 //!
-//! Promises: `map`, `unmap` and `protect` are the definitions' changes of a space, page by page (hybrid_model's specs/Spaces); `read` and
+//! Promises: `map`, `unmap` and `protect` are the definitions' changes of a space, page by page (hybrid_model's specs/Spaces), and
+//! `map_bytes` adds pages with given bytes (specs/Fills); `read` and
 //! `write` are the bytes of the memory that the table shows (isa_model's specs/Memory), all or nothing, and name the first page that
 //! lacks (specs/Lacks); the mapped pages are those of the table. Stores change the frames as the memory
 //! that the table shows, written back, does (`stores_are_written_back`). No call but `make_room` and `reserve` takes memory or fails. The conditions on rows, frames and
@@ -9,13 +10,18 @@
 
 mod bytes;
 mod changes;
+<<<<<<< HEAD
 mod laws;
+=======
+mod fills;
+>>>>>>> 88a3b4b38b076a9bb412579ef50ffb495414783c
 
 ghost use Rattle.frame_pool.specs.Pools.{Pool};
 ghost use Rattle.hybrid_model.specs.Sides.{looked_up};
 ghost use Rattle.hybrid_model.specs.Spaces.{add_page, drop_page, protect_page};
 ghost use Rattle.kernel_model.specs.Pages.{pages_count};
 ghost use Rattle.kernel_model.specs.Spaces.{each_in};
+ghost use Rattle.lwk_tables.specs.Fills.{fill_page};
 ghost use Rattle.lwk_tables.specs.Frames.{space};
 ghost use Rattle.isa_model.specs.Memory.{may_access, read_bytes, write_bytes};
 ghost use Rattle.lwk_tables.specs.Lacks.{IsFirstLack, NoRowHas, memory};
@@ -28,6 +34,7 @@ ghost use Rattle.std.specs.Prelude.{◌≡◌, ◌≤◌, ◌<◌, ◌+◌, ◌^
 
 use bytes::row_at;
 use changes::{add_pages, drop_pages, protect_pages};
+use fills::fill_pages;
 use frame_mem::FrameMem;
 use frame_pool::FramePool;
 use isa_model::Lack;
@@ -139,6 +146,34 @@ impl<T: PageTable> Space<T> {
         ensures mem { length mem.new ≡ length mem.old }
     {
         add_pages(&mut self.table, r, rights, mem, pool);
+        self.areas.cover(*r);
+    }
+
+    /// Maps the pages of a range, which are absent, at the lowest free frames: with the bytes from the address `start` on, and zeros around them.
+    pub fn map_bytes(
+        &mut self,
+        r: &PageRange,
+        rights: Rights,
+        start: u64,
+        bytes: &[u8],
+        mem: &mut FrameMem,
+        pool: &mut FramePool,
+    )
+        requires spare { 1 ≤ self.old.areas.spare }
+        requires order { r.now.lo ≤ r.now.hi }
+        requires below { r.now.hi ≤ 2 ^ 27 }
+        requires absent { AbsentIn (T.rows self.old.table) r.now }
+        requires room { RoomFor (T.has_room self.old.table) r.now }
+        requires enough { pages_count r.now ≤ length pool.old.free }
+        requires frames { pool.old.frames ≡ length mem.old }
+        ensures after { space (T.rows self.new.table) mem.new pool.new ≡ each_in (fill_page rights start bytes.now) r.now (space (T.rows self.old.table) mem.old pool.old) }
+        ensures brk { self.new.areas.program_break ≡ self.old.areas.program_break }
+        ensures spare { self.old.areas.spare ≤ self.new.areas.spare + 1 }
+        ensures keeps { (rs : List range) → LiesIn r.now rs → T.has_room self.old.table rs → T.has_room self.new.table rs }
+        ensures pool { pool.new.frames ≡ pool.old.frames }
+        ensures mem { length mem.new ≡ length mem.old }
+    {
+        fill_pages(&mut self.table, r, rights, start, bytes, mem, pool);
         self.areas.cover(*r);
     }
 

@@ -1,0 +1,5 @@
+pub mod Guests
+pub mod Loads
+pub mod Order
+pub mod Rooms
+pub mod Top
