@@ -8,6 +8,8 @@
 
 pub mod process_rows;
 pub mod tables;
+mod thread_rows;
+mod threads;
 
 pub use process_rows::{Process, Processes};
 pub use tables::{Node, ScriptLine};
