@@ -6,6 +6,7 @@
 //! changed in place, and the instructions of all processes are kept, not summed.
 #![tactic(auto)]
 
+mod may;
 pub mod process_rows;
 pub mod tables;
 mod thread_rows;
