@@ -3,3 +3,4 @@ pub mod Rows
 pub mod Chosen
 pub mod Lines
 pub mod Passing
+pub mod Twice

@@ -8,6 +8,7 @@
 
 mod may;
 pub mod process_rows;
+mod signals;
 pub mod tables;
 mod thread_rows;
 mod threads;

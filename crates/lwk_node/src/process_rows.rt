@@ -3,13 +3,14 @@ ghost use Rattle.std.specs.Prelude.{◌≡◌, ◌≤◌, ◌<◌, ◌+◌, ◌^
 ghost use Rattle.std.specs.Option.{option_copied};
 ghost use Rattle.kernel_model.specs.Nodes.{dies_from};
 ghost use Rattle.kernel_model.specs.Traps.{life_ended};
+ghost use Rattle.kernel_model.specs.SignalSets.{with_signal as set_with, without_signal as set_without};
 ghost use Rattle.lwk_signals.specs.Actions.{with_action_at};
 ghost use Rattle.mck_word.specs.Maps.{at, change, count, no_rows, put};
 ghost use Rattle.lwk_node.specs.Totals.{counted, instructions_in};
 
 use kernel_model::{Action, Life};
 use key_rows::Rows;
-use lwk_signals::Actions;
+use lwk_signals::{Actions, with_signal, without_signal};
 use mck_flags::SigSet;
 use mck_word::{End, NoMemory, Pid};
 use std::alloc::Global;
@@ -160,6 +161,30 @@ impl Processes {
         if self.rows.get(p.0 as u64).is_some() {
             let row = self.rows.row_mut(p.0 as u64);
             row.pending = v;
+        }
+    }
+
+    /// A signal is pending for the process.
+    pub fn pend(&mut self, p: Pid, signal: u32)
+        requires least { 1 ≤ signal }
+        requires most { signal ≤ 64 }
+        ensures { self.new ≡ record self.old { map = change self.old.map p.0 (λ x. record x { pending = record { 0 = set_with signal x.pending.0 } }) } }
+    {
+        if self.rows.get(p.0 as u64).is_some() {
+            let row = self.rows.row_mut(p.0 as u64);
+            row.pending = with_signal(signal, row.pending);
+        }
+    }
+
+    /// A signal is pending for the process no longer.
+    pub fn unpend(&mut self, p: Pid, signal: u32)
+        requires least { 1 ≤ signal }
+        requires most { signal ≤ 64 }
+        ensures { self.new ≡ record self.old { map = change self.old.map p.0 (λ x. record x { pending = record { 0 = set_without signal x.pending.0 } }) } }
+    {
+        if self.rows.get(p.0 as u64).is_some() {
+            let row = self.rows.row_mut(p.0 as u64);
+            row.pending = without_signal(signal, row.pending);
         }
     }
 

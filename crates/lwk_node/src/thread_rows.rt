@@ -1,11 +1,13 @@
 // Changes of a thread's row, where the thread lives.
 ghost use Rattle.std.specs.Prelude.{◌≡◌, ◌≤◌, ◌+◌, ◌-◌, ◌^◌, false, true};
 ghost use Rattle.kernel_model.specs.Nodes.{set_a0, set_pc};
+ghost use Rattle.kernel_model.specs.SignalSets.{with_signal as set_with, without_signal as set_without};
 ghost use Rattle.kernel_model.specs.declared.Does.TheVariants.{Ready};
 ghost use Rattle.lwk_threads.specs.Threads.{changed, without_thread};
 ghost use Rattle.mck_word.specs.Words.{word_of};
 
 use kernel_model::Does;
+use lwk_signals::{with_signal, without_signal};
 use lwk_threads::ThreadTable;
 use mck_flags::SigSet;
 use mck_word::{Regs, Tid};
@@ -139,5 +141,29 @@ pub fn remove(threads: &mut ThreadTable<Does>, t: Tid)
     match threads.thread(t) {
         Some(_) => threads.gone(t),
         None => {}
+    }
+}
+
+/// A signal is pending for the thread.
+pub fn pend(threads: &mut ThreadTable<Does>, t: Tid, signal: u32)
+    requires least { 1 ≤ signal }
+    requires most { signal ≤ 64 }
+    ensures { threads.new ≡ record threads.old { threads = changed t.0 (λ x. record x { pending = record { 0 = set_with signal x.pending.0 } }) threads.old.threads } }
+{
+    if let Some(x) = threads.thread(t) {
+        let pending = with_signal(signal, x.pending);
+        threads.set_pending(t, pending);
+    }
+}
+
+/// A signal is pending for the thread no longer.
+pub fn unpend(threads: &mut ThreadTable<Does>, t: Tid, signal: u32)
+    requires least { 1 ≤ signal }
+    requires most { signal ≤ 64 }
+    ensures { threads.new ≡ record threads.old { threads = changed t.0 (λ x. record x { pending = record { 0 = set_without signal x.pending.0 } }) threads.old.threads } }
+{
+    if let Some(x) = threads.thread(t) {
+        let pending = without_signal(signal, x.pending);
+        threads.set_pending(t, pending);
     }
 }
