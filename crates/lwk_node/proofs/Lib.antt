@@ -4,3 +4,4 @@ pub mod Chosen
 pub mod Lines
 pub mod Passing
 pub mod Twice
+pub mod RowsPassed

@@ -7,6 +7,7 @@
 #![tactic(auto)]
 
 mod may;
+mod passes;
 pub mod process_rows;
 mod signals;
 pub mod tables;
