@@ -5,3 +5,5 @@ pub mod Lines
 pub mod Passing
 pub mod Twice
 pub mod RowsPassed
+pub mod Collected
+pub mod Living

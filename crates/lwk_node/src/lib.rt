@@ -6,6 +6,7 @@
 //! changed in place, and the instructions of all processes are kept, not summed.
 #![tactic(auto)]
 
+mod ends;
 mod may;
 mod passes;
 pub mod process_rows;
