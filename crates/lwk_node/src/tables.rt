@@ -8,23 +8,13 @@ ghost use Rattle.lwk_node.specs.Shown.{node_of};
 ghost use Rattle.lwk_node.specs.Totals.{instructions_in};
 
 use crate::process_rows::Processes;
+use crate::script_lines::ScriptLine;
 use futex_queues::Sleepers;
 use kernel_model::{Action, Does, Life};
 use lwk_threads::ThreadTable;
 use mck_flags::SigSet;
 use mck_word::{End, NoMemory, Pid, Regs, Tid};
 use std::alloc::Global;
-
-/// An unsent line of the script: its index among the signal lines, its line in the job, and the signal that it sends once the
-/// process has executed so many instructions.
-#[derive(Clone, Copy, PartialEq, Eq, Debug)]
-pub struct ScriptLine {
-    pub index: u32,
-    pub line: u32,
-    pub process: Pid,
-    pub signal: u32,
-    pub after: u64,
-}
 
 /// The tables of a node.
 #[derive(Drop)]
