@@ -7,6 +7,7 @@
 #![tactic(auto)]
 
 mod ends;
+mod handlers;
 mod may;
 mod passes;
 pub mod process_rows;

@@ -195,6 +195,16 @@ impl Node {
         }
     }
 
+    /// The thread's place, one of sixteen in its process, or 0 where it doesn't live.
+    pub fn place(&self, t: Tid) -> u32
+        ensures { (files : Files) → result ≡ (thread_of (node_of self.now files) t.0).place }
+    {
+        match self.threads.thread(t) {
+            Some(x) => x.place,
+            None => 0,
+        }
+    }
+
     /// What the thread does; one that doesn't live is Ready.
     pub fn does(&self, t: Tid) -> Does
         ensures { (files : Files) → result ≡ (thread_of (node_of self.now files) t.0).does }
