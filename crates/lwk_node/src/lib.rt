@@ -7,7 +7,9 @@
 #![tactic(auto)]
 
 mod ends;
+mod forks;
 mod handlers;
+mod making;
 mod may;
 mod passes;
 pub mod process_rows;
