@@ -9,3 +9,4 @@ pub mod Collected
 pub mod Living
 pub mod Made
 pub mod Forked
+pub mod Counted

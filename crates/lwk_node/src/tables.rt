@@ -3,7 +3,7 @@ ghost use Rattle.std.specs.Prelude.{◌≡◌, ◌≤◌, ◌<◌, ◌+◌, ◌-
 ghost use Rattle.file_model.specs.Files.{Files};
 ghost use Rattle.kernel_model.specs.CloneCalls.{parent_number};
 ghost use Rattle.kernel_model.specs.Nodes.{action_of, has_process, has_thread, instructions_in_all, is_dying, is_ended, is_living, is_there, process_of, thread_of};
-ghost use Rattle.mck_word.specs.Maps.{no_rows};
+ghost use Rattle.mck_word.specs.Maps.{count, no_rows};
 ghost use Rattle.lwk_node.specs.Shown.{node_of};
 ghost use Rattle.lwk_node.specs.Totals.{instructions_in};
 
@@ -48,6 +48,14 @@ impl Node {
         ensures { (files : Files) → result ≡ has_process (node_of self.now files) p.0 }
     {
         self.processes.process(p).is_some()
+    }
+
+    /// How many processes were made.
+    #[tactic(auto, using(crate::proofs::Counted::count_shown))]
+    pub fn process_count(&self) -> usize
+        ensures { (files : Files) → result ≡ count (node_of self.now files).processes }
+    {
+        self.processes.count()
     }
 
     /// How far the process's life is; one that isn't there has ended.

@@ -97,11 +97,11 @@ pub fn set_state(threads: &mut ThreadTable<Does>, t: Tid, does: Does)
 }
 
 /// The thread has run: other registers, not back on an ecall, and what it does then.
-pub fn set_run(threads: &mut ThreadTable<Does>, t: Tid, regs: Regs, does: Does)
-    ensures { threads.new ≡ record threads.old { threads = changed t.0 (λ x. record x { regs = regs; back = false; state = does }) threads.old.threads } }
+pub fn set_run(threads: &mut ThreadTable<Does>, t: Tid, regs: Regs, state: Does)
+    ensures { threads.new ≡ record threads.old { threads = changed t.0 (λ x. record x { regs = regs; back = false; state = state }) threads.old.threads } }
 {
     if threads.thread(t).is_some() {
-        threads.set_stand(t, regs, false, does);
+        threads.set_stand(t, regs, false, state);
     }
 }
 
