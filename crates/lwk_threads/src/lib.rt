@@ -9,11 +9,11 @@
 pub mod clone_values;
 pub mod member_rows;
 
-ghost use Rattle.std.specs.Prelude.{◌≡◌, ◌≤◌, ◌<◌, ◌+◌, ◌-◌, ◌^◌, ◌%◌, OnOk, IsTrue, IsSome, None, Some, option_map, length, filter, List, ℕ, slice_index};
+ghost use Rattle.std.specs.Prelude.{◌≡◌, ◌≤◌, ◌<◌, ◌+◌, ◌-◌, ◌^◌, ◌%◌, OnOk, IsTrue, IsSome, None, Some, option_map, length, filter, max, MatchOption, List, ℕ, slice_index};
 ghost use Rattle.std.specs.Option.{option_copied};
 ghost use Rattle.kernel_model.specs.Nodes.{most_threads};
 ghost use Rattle.key_rows.specs.Table.{key_from};
-ghost use Rattle.mck_word.specs.Maps.{at, values};
+ghost use Rattle.mck_word.specs.Maps.{at, entries, values};
 ghost use Rattle.lwk_threads.specs.Threads.{Threads, changed, cloned, first_thread, is_of, live_threads, lives, lowest_free_place, no_threads, peers_of, stands_at, with_clone, with_thread, without_thread};
 ghost use Rattle.kernel_model.specs.CloneCalls.{cloned_thread};
 ghost use Rattle.kernel_model.specs.Nodes.{Node};
@@ -84,6 +84,7 @@ impl<S: Drop> ThreadTable<S> {
     pub fn fresh(&self) -> Tid
         ensures next { result.0 ≡ self.now.threads.next }
         ensures unused { at self.now.threads.rows result.0 ≡ None }
+        ensures nobody { live_threads result.0 self.now.threads ≡ 0 }
     {
         Tid(self.next_tid)
     }
@@ -125,6 +126,7 @@ impl<S: Drop> ThreadTable<S> {
         requires below { thread.tid.0 < 2 ^ 32 - 1 }
         requires few { live_threads thread.pid.0 self.old.threads < most_threads }
         requires within { thread.place < most_threads }
+        requires known { thread.pid.0 < max self.old.threads.next (thread.tid.0 + 1) }
         requires free { length (filter (stands_at thread.pid.0 thread.place) (values self.old.threads.rows)) ≡ 0 }
         ensures threads { self.new.threads ≡ with_thread thread self.old.threads }
         ensures takes { self.old.spare ≤ self.new.spare + 1 }
@@ -138,6 +140,7 @@ impl<S: Drop> ThreadTable<S> {
     pub fn first(&mut self, pid: Pid, tid: Tid, regs: Regs, mask: SigSet, state: S)
         requires room { 1 ≤ self.old.spare }
         requires alone { live_threads pid.0 self.old.threads ≡ 0 }
+        requires known { pid.0 ≤ tid.0 }
         requires below { tid.0 < 2 ^ 32 - 1 }
         requires unused { at self.old.threads.rows tid.0 ≡ None }
         ensures threads { self.new.threads ≡ with_thread (first_thread pid tid regs mask state) self.old.threads }
@@ -162,6 +165,7 @@ impl<S: Drop> ThreadTable<S> {
         ensures lowest { result ≡ lowest_free_place pid.0 self.now.threads }
         ensures within { result < most_threads }
         ensures free { length (filter (stands_at pid.0 result) (values self.now.threads.rows)) ≡ 0 }
+        ensures known { 1 ≤ live_threads pid.0 self.now.threads → pid.0 < self.now.threads.next }
     {
         place_among(&self.groups, pid)
     }
@@ -245,6 +249,17 @@ impl<S: Drop> ThreadTable<S> {
         self.rows.row_mut(t.0 as u64).state = v;
     }
 
+    /// Gives the thread other registers, the note whether it stands back on an interrupted ecall, and another state.
+    pub fn set_stand(&mut self, t: Tid, regs: Regs, back: bool, state: S)
+        requires { IsTrue (lives self.old.threads t.0) }
+        ensures { self.new ≡ record self.old { threads = changed t.0 (λ x. record x { regs = regs; back = back; state = state }) self.old.threads } }
+    {
+        let row = self.rows.row_mut(t.0 as u64);
+        row.regs = regs;
+        row.back = back;
+        row.state = state;
+    }
+
     /// The thread lives no longer.
     pub fn gone(&mut self, t: Tid)
         requires { IsTrue (lives self.old.threads t.0) }
@@ -255,9 +270,17 @@ impl<S: Drop> ThreadTable<S> {
         part(&mut self.groups, x.pid, x.place);
     }
 
+    /// The live threads in the order of their numbers.
+    pub fn rows(&self) -> &[(u64, Thread<S>)]
+        ensures { result.now ≡ entries self.now.threads.rows }
+    {
+        self.rows.as_slice()
+    }
+
     /// The lowest live thread from there on: None exactly where there is none.
     pub fn next(&self, from: Tid) -> Option<Tid>
-        ensures { option_map (λ t. t.0) result ≡ key_from self.now.threads.rows from.0 }
+        ensures is { option_map (λ t. t.0) result ≡ key_from self.now.threads.rows from.0 }
+        ensures below { MatchOption result (Unit {0}) (λ t. t.0 < self.now.threads.next) }
     {
         // No key is above the next number, which fits.
         let _limit = self.fresh();

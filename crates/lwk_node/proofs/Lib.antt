@@ -1,0 +1,12 @@
+pub mod Sums
+pub mod Rows
+pub mod Chosen
+pub mod Lines
+pub mod Passing
+pub mod Twice
+pub mod RowsPassed
+pub mod Collected
+pub mod Living
+pub mod Made
+pub mod Forked
+pub mod Counted
