@@ -77,6 +77,15 @@ lowest-is ns n below here =
           ap (λ o. unwrap_or o (length ns)) (find-none (λ j. not (member j ns)) 0 (length ns) (λ i l. misses i (omega arith))) ∙ same
     ]
 
+find-le : (p : ℕ → Bool) (n k most : ℕ) → n + k ≤ most → unwrap_or (find p (count_from n k)) most ≤ most
+find-le p n zero most h = omega arith
+find-le p n (suc k) most h =
+    let rest = find-le p (n + 1) k most (omega arith) in
+    elim (p n) as (λ b. unwrap_or (cond b (Some n) (find p (count_from (n + 1) k))) most ≤ most) [ true ↦ omega arith | false ↦ rest ]
+
+pub lowest-le : (ns : List ℕ) → lowest_not_in ns ≤ length ns
+lowest-le ns = find-le (λ n. not (member n ns)) 0 (length ns) (length ns) (omega arith)
+
 eqb-turned : (a b : ℕ) → eqb a b ≡ eqb b a
 eqb-turned a b = elim (cases_eq a b) [
   | inl e ↦ eq-eqb a b e ∙ sym (eq-eqb b a (sym e))
@@ -94,11 +103,3 @@ module _ {V : Type 0} where
   -- the same for the keys of a map
   pub lowest-free : (m : Map V) (n : ℕ) → ((i : ℕ) → i < n → is_some (at m i) ≡ true) → at m n ≡ None → lowest_not_in (keys m) ≡ n
   lowest-free m n below here = lowest-is (keys m) n (λ i l. member-keys m i ∙ below i l) (member-keys m n ∙ ap is_some here)
-
-  -- the least number that is no key has no row
-  pub at-lowest : (m : Map V) (n : ℕ) → lowest_not_in (keys m) ≡ n → member n (keys m) ≡ false → at m n ≡ None
-  at-lowest m n e h = none_of (at m n) (sym (member-keys m n) ∙ h)
-    where
-      none_of : (o : Option V) → is_some o ≡ false → o ≡ None
-      none_of None h = refl
-      none_of (Some v) h = absurd (true≢false h)

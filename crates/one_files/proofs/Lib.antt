@@ -1,0 +1,4 @@
+pub mod Splices
+pub mod Slots
+pub mod Counts
+pub mod Totals

@@ -1,0 +1,7 @@
+pub mod Codes
+pub mod Named
+pub mod Opened
+pub mod Seen
+pub mod Slotted
+pub mod Tables
+pub mod Used
