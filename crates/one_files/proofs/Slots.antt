@@ -89,7 +89,7 @@ module _ {V : Type 0} where
   pub lowest-slot : (os : List (Option V)) (n : ℕ) → ((i : ℕ) → i < n → is_some (slice_index_or os i None) ≡ true) → slice_index_or os n None ≡ None → n ≡ lowest_not_in (keys (by_place os))
   lowest-slot os n below here = sym (lowest-free (by_place os) n (λ i l. ap is_some (at-slots os i) ∙ below i l) (at-slots os n ∙ here))
 
-  cut-absent : (m : Map V) (k : ℕ) → at m k ≡ None → m ≡ cut m k
+  pub cut-absent : (m : Map V) (k : ℕ) → at m k ≡ None → m ≡ cut m k
   cut-absent m k h = same_rows _ _ (λ q. sym (at-cut m k q ∙ elim (cases_eq q k) [
     | inl e ↦ rw (eq-eqb q k e) (sym (ap (at m) e ∙ h))
     | inr o ↦ rw (ne_eqb q k o) refl

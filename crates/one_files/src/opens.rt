@@ -1,8 +1,8 @@
 // Opening, and processes.
-ghost use Rattle.std.specs.Prelude.{◌≡◌, ◌≤◌, ◌<◌, ◌+◌, ◌^◌, OnOk, OnErr, None};
-ghost use Rattle.file_model.specs.Files.{descriptors_of, lowest_free, with_console};
+ghost use Rattle.std.specs.Prelude.{◌≡◌, ◌≤◌, ◌<◌, ◌+◌, ◌^◌, OnOk, OnErr, IsSome, None};
+ghost use Rattle.file_model.specs.Files.{descriptors_of, lowest_free, named_by, with_console};
 ghost use Rattle.mck_word.specs.Maps.{at, count};
-ghost use Rattle.one_files.specs.Opened.{with_console_opened, with_file_opened};
+ghost use Rattle.one_files.specs.Opened.{with_console_opened, with_file_opened, without_descriptor, without_descriptors};
 ghost use Rattle.one_files.specs.Seen.{room_of, seen};
 
 use crate::RowFiles;
@@ -39,6 +39,23 @@ impl RowFiles {
         self.descriptions.put(d, file);
         self.descriptors.put(pid.0 as u64, descriptors);
         fd
+    }
+
+    /// Takes a descriptor of a process away.
+    pub(crate) fn cut_descriptor(&mut self, pid: Pid, fd: u32)
+        requires { IsSome (named_by (seen self.old) pid.0 fd) }
+        ensures { seen self.new ≡ without_descriptor pid.0 fd (seen self.old) }
+    {
+        self.descriptors.row_mut(pid.0 as u64).cut(fd);
+    }
+
+    /// Takes all descriptors of a process away.
+    pub(crate) fn cut_descriptors(&mut self, pid: Pid)
+        ensures { seen self.new ≡ without_descriptors pid.0 (seen self.old) }
+    {
+        if self.descriptors.get(pid.0 as u64).is_some() {
+            let _ = self.descriptors.remove(pid.0 as u64);
+        }
     }
 
     /// Makes room for `n` more descriptions. Also fails where nearly 2 ^ 32 of them are open.

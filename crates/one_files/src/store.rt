@@ -135,9 +135,7 @@ impl FileStore for RowFiles {
     }
 
     fn close(&mut self, pid: Pid, fd: u32) {
-        if self.descriptors.get(pid.0 as u64).is_some() {
-            self.descriptors.row_mut(pid.0 as u64).cut(fd);
-        }
+        self.cut_descriptor(pid, fd);
         self.settle();
     }
 
@@ -214,9 +212,7 @@ impl FileStore for RowFiles {
     }
 
     fn close_all(&mut self, pid: Pid) {
-        if self.descriptors.get(pid.0 as u64).is_some() {
-            let _ = self.descriptors.remove(pid.0 as u64);
-        }
+        self.cut_descriptors(pid);
         self.settle();
     }
 
