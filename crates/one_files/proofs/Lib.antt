@@ -5,3 +5,4 @@ pub mod Totals
 pub mod KthNames
 pub mod Rows
 pub mod Sorting
+pub mod JobFiles

@@ -1,8 +1,9 @@
 // The bytes of a file.
-ghost use Rattle.std.specs.Prelude.{◌≡◌, ◌≤◌, ◌+◌, ◌-◌, ◌++◌, [], length, replicate, vec_len};
+ghost use Rattle.std.specs.Prelude.{◌≡◌, ◌≤◌, ◌+◌, ◌-◌, ◌++◌, [], IfOk, length, replicate, vec_len};
 ghost use Rattle.std.specs.Vec.{vec_capacity};
 ghost use Rattle.mck_word.specs.Lists.{spliced};
 
+use mck_word::NoMemory;
 use std::alloc::Global;
 use std::marker::Model;
 use std::mem;
@@ -71,6 +72,15 @@ impl FileBytes {
         FileBytes {
             bytes: Vec::new(alloc),
         }
+    }
+
+    /// A copy of these bytes.
+    pub fn from_slice(alloc: Global, bytes: &[u8]) -> Result<FileBytes, NoMemory>
+        ensures { IfOk result (λ copy. copy ≡ bytes.now) }
+    {
+        Ok(FileBytes {
+            bytes: Vec::from_slice(alloc, bytes)?,
+        })
     }
 
     /// The bytes.

@@ -8,6 +8,7 @@
 pub mod console;
 pub mod descriptors;
 pub mod file_bytes;
+mod job;
 pub mod names;
 pub mod node;
 pub mod nodes;
@@ -62,3 +63,6 @@ impl RowFiles {
         })
     }
 }
+
+#[cfg(test)]
+mod tests;

@@ -1,5 +1,5 @@
 // A node of the tree.
-ghost use Rattle.std.specs.Prelude.{◌≡◌, ◌≤◌, ◌<◌, ◌+◌, ◌^◌, Some, None, [], is_some, length, not};
+ghost use Rattle.std.specs.Prelude.{◌≡◌, ◌≤◌, ◌<◌, ◌+◌, ◌^◌, Some, None, [], false, is_some, length, not};
 ghost use Rattle.std.specs.Option.{option_copied};
 ghost use Rattle.std.specs.Vec.{vec_capacity};
 ghost use Rattle.mck_word.specs.Lists.{spliced};
@@ -52,6 +52,19 @@ impl Node {
             name: Some(ShortName::new(name)),
             directory,
             bytes: FileBytes::new(alloc),
+        }
+    }
+
+    /// A file with those bytes, with a name in a directory.
+    pub fn with_bytes(parent: u64, name: &[u8], bytes: FileBytes) -> Node
+        requires { length name.now ≤ 255 }
+        ensures { result ≡ record { parent = parent; name = Some name.now; directory = false; bytes = bytes } }
+    {
+        Node {
+            parent,
+            name: Some(ShortName::new(name)),
+            directory: false,
+            bytes,
         }
     }
 
