@@ -1,5 +1,5 @@
 // What a store of files offers to the file calls.
-ghost use Rattle.std.specs.Prelude.{◌≡◌, ◌≤◌, ◌<◌, ◌+◌, ◌-◌, ◌^◌, ◌==◌, ℕ, List, [], Some, None, IsTrue, IfSome, OnErr, OnOk, option_map, length, take, drop, min, nat_lt, slice_get, not};
+ghost use Rattle.std.specs.Prelude.{◌≡◌, ◌≤◌, ◌<◌, ◌+◌, ◌-◌, ◌^◌, ◌==◌, ℕ, List, [], Some, None, IsTrue, IsSome, IfSome, OnErr, OnOk, option_map, length, take, drop, min, nat_lt, slice_get, not};
 ghost use Rattle.std.specs.Option.{option_copied};
 ghost use Rattle.mck_word.specs.Maps.{at, count};
 ghost use Rattle.file_model.specs.Files.{Console, Files, node_of, pipe_of, console_of, description_of, named_by, descriptors_of, lowest_free, is_open, total_bytes, set_offset, set_bytes, set_pipe};
@@ -129,8 +129,9 @@ pub trait FileStore: Sized {
         requires { offset < 2 ^ 63 }
         ensures { files self.new ≡ set_offset d offset (files self.old) };
 
-    /// Closes a descriptor.
+    /// Closes a descriptor that names a description.
     fn close(&mut self, pid: Pid, fd: u32)
+        requires { IsSome (named_by (files self.old) pid.0 fd) }
         ensures { files self.new ≡ files_of.closed pid.0 fd (files self.old) };
 
     /// A call takes the description.

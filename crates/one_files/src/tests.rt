@@ -1,0 +1,54 @@
+// A console is written; a file is made, written, read back and unlinked.
+ghost use Rattle.file_calls.specs.FileSteps.{Allows};
+ghost use Rattle.one_files.specs.Seen.{seen};
+
+use crate::RowFiles;
+use file_calls::steps::file_step;
+use file_calls::store::FileStore;
+use file_model::{FileAns, FileOp};
+use mck_word::{NoMemory, Pid};
+use std::test::Fail;
+
+// A step of process 1, with its room.
+fn step(files: &mut RowFiles, op: &FileOp, io: &mut [u8]) -> Result<FileAns, NoMemory>
+    requires { Allows (seen files.old) op.now io.old }
+{
+    files.make_room(op)?;
+    Ok(file_step(files, Pid(1), op, io))
+}
+
+#[test]
+fn a_file_is_written_and_unlinked(rt: HostRuntime) -> Result<(), Fail> {
+    let mut files = RowFiles::new(rt.alloc())?;
+    let open = FileOp::Openat {
+        dirfd: -100,
+        flags: 0o102,
+    };
+    assert_eq!(rt; step(&mut files, &open, &mut [47, 97])?, FileAns::Done(0));
+    let put = FileOp::Put {
+        desc: 0,
+        at: None,
+        moved: 0,
+        len: 2,
+    };
+    assert_eq!(rt; step(&mut files, &put, &mut [104, 105])?, FileAns::Done(2));
+    let get = FileOp::Get {
+        desc: 0,
+        at: Some(0),
+        moved: 0,
+        len: 2,
+    };
+    let mut read = [0, 0];
+    assert_eq!(rt; step(&mut files, &get, &mut read)?, FileAns::Done(2));
+    assert_eq!(rt; read, [104, 105]);
+    assert_eq!(rt; files.node_count(), 2);
+    let unlink = FileOp::Unlinkat {
+        dirfd: -100,
+        flags: 0,
+    };
+    assert_eq!(rt; step(&mut files, &unlink, &mut [47, 97])?, FileAns::Done(0));
+    assert_eq!(rt; files.node_count(), 2);
+    assert_eq!(rt; step(&mut files, &FileOp::Close { fd: 0 }, &mut [])?, FileAns::Done(0));
+    assert_eq!(rt; files.node_count(), 1);
+    Ok(())
+}
