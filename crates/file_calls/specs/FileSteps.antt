@@ -11,7 +11,7 @@ use Rattle.file_model.specs.declared.operations.Readiness.{Readiness}
 use Rattle.file_model.specs.declared.operations.Readiness.TheVariants.{Ready, NotReady, FileStep}
 use Rattle.std.specs.Prelude.{◌≡◌, ℕ, ◌<◌, ◌^◌, ◌-◌, min, List, length, ℤ, pos, ◌<ℤ◌}
 
--- no description is held by so many calls that one more cannot be counted
+-- no description is held by so many calls that one more cannot be counted: it is so where there are fewer calls than that in all
 abbrev pub FewCalls : Files → Type 0
 FewCalls files = (d : ℕ) → (description_of files d).calls < 2 ^ 32 - 1
 
