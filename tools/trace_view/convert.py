@@ -171,26 +171,32 @@ def line_of(event):
     return " ".join([event.word, *map(str, event.numbers)])
 
 
+def group_name(row):
+    if row.group == 0:
+        return "cores"
+    return f"process {row.group}" if row.group < 2**32 else row.name
+
+
 def json_of(events):
-    """The trace-event JSON. A microsecond stands for one event."""
+    """The trace-event JSON. A microsecond stands for one event. Groups of rows are shown as processes and rows as threads, counted from 1."""
     core_of = cores_of(events)
     rows = [row_of(e, core_of) for e in events]
+    shown = sorted(set(rows))
+    groups = sorted({row.group for row in shown})
+    at = {row: {"pid": groups.index(row.group) + 1, "tid": number} for number, row in enumerate(shown, 1)}
     out = []
-    for group in sorted({row.group for row in rows}):
-        of_group = sorted({row for row in rows if row.group == group})
-        name = "cores" if group == 0 else f"process {group}" if group < 2**32 else of_group[0].name
-        out.append({"ph": "M", "name": "process_name", "pid": group, "tid": 0, "args": {"name": name}})
-        out += [{"ph": "M", "name": "thread_name", "pid": group, "tid": row.part, "args": {"name": row.name}} for row in of_group]
+    for row in shown:
+        out.append({"ph": "M", "name": "process_name", "args": {"name": group_name(row)}} | at[row])
+        out.append({"ph": "M", "name": "process_sort_index", "args": {"sort_index": at[row]["pid"]}} | at[row])
+        out.append({"ph": "M", "name": "thread_name", "args": {"name": row.name}} | at[row])
+        out.append({"ph": "M", "name": "thread_sort_index", "args": {"sort_index": at[row]["tid"]}} | at[row])
     for e, row in zip(events, rows):
-        args = {"line": e.place + 2}
-        if e.word == "run":
-            args["at most"] = e.numbers[2]
-        out.append({"ph": "X", "name": line_of(e), "cat": e.word, "ts": e.place, "dur": 1, "pid": row.group, "tid": row.part, "args": args})
-    for number, a in enumerate(arrows_of(events)):
-        for ph, place in (("s", a.first), ("f", a.last)):
-            end = {"ph": ph, "id": number, "name": a.kind, "cat": "arrow", "ts": place + 0.5, "pid": rows[place].group, "tid": rows[place].part}
-            out.append(end | ({"bp": "e"} if ph == "f" else {}))
-    return json.dumps({"traceEvents": out, "displayTimeUnit": "ns"}, indent=1) + "\n"
+        out.append({"ph": "X", "name": line_of(e), "cat": e.word, "ts": e.place, "dur": 1, "args": {"line": e.place + 2}} | at[row])
+    for number, arrow in enumerate(arrows_of(events), 1):
+        both = {"id": number, "name": arrow.kind, "cat": "arrow"}
+        out.append({"ph": "s", "ts": arrow.first + 0.5} | both | at[rows[arrow.first]])
+        out.append({"ph": "f", "bp": "e", "ts": arrow.last + 0.5} | both | at[rows[arrow.last]])
+    return json.dumps({"traceEvents": out}, indent=1) + "\n"
 
 
 # ---- the SVG
