@@ -1,20 +1,16 @@
 //! The space of a process: its page table, its mapped pages and its break, over the frames of the node.
 //!
 //! Promises: `map`, `unmap` and `protect` are the definitions' changes of a space, page by page (hybrid_model's specs/Spaces), and
-//! `map_bytes` adds pages with given bytes (specs/Fills); `read` and
-//! `write` are the bytes of the memory that the table shows (isa_model's specs/Memory), all or nothing, and name the first page that
-//! lacks (specs/Lacks); the mapped pages are those of the table. Stores change the frames as the memory
-//! that the table shows, written back, does (`stores_are_written_back`). No call but `make_room` and `reserve` takes memory or fails. The conditions on rows, frames and
-//! room stand in specs/Rows.
+//! `map_bytes` adds pages with given bytes (specs/Fills); `read` and `write` are the bytes of the memory that the table shows
+//! (isa_model's specs/Memory), all or nothing, and name the first page that lacks (specs/Lacks); the mapped pages are those of the
+//! table. Stores change the frames as the memory that the table shows, written back, does (`stores_are_written_back`). No call but
+//! `make_room` and `reserve` takes memory or fails. The conditions on rows, frames and room stand in specs/Rows.
 #![tactic(auto)]
 
 mod bytes;
 mod changes;
-<<<<<<< HEAD
-mod laws;
-=======
 mod fills;
->>>>>>> 88a3b4b38b076a9bb412579ef50ffb495414783c
+mod laws;
 
 ghost use Rattle.frame_pool.specs.Pools.{Pool};
 ghost use Rattle.hybrid_model.specs.Sides.{looked_up};
