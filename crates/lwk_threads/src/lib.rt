@@ -245,6 +245,17 @@ impl<S: Drop> ThreadTable<S> {
         self.rows.row_mut(t.0 as u64).state = v;
     }
 
+    /// Gives the thread other registers, the note whether it stands back on an interrupted ecall, and another state.
+    pub fn set_stand(&mut self, t: Tid, regs: Regs, back: bool, state: S)
+        requires { IsTrue (lives self.old.threads t.0) }
+        ensures { self.new ≡ record self.old { threads = changed t.0 (λ x. record x { regs = regs; back = back; state = state }) self.old.threads } }
+    {
+        let row = self.rows.row_mut(t.0 as u64);
+        row.regs = regs;
+        row.back = back;
+        row.state = state;
+    }
+
     /// The thread lives no longer.
     pub fn gone(&mut self, t: Tid)
         requires { IsTrue (lives self.old.threads t.0) }

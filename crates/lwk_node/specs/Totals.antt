@@ -1,0 +1,7 @@
+-- The instructions of all processes together.
+use Rattle.lwk_node.specs.declared.process_rows.Process.{Process}
+use Rattle.mck_word.specs.Maps.{Map, total}
+use Rattle.std.specs.Prelude.{ℕ}
+
+abbrev pub instructions_in : Map Process → ℕ
+instructions_in m = total (λ (x : Process). x.instructions) m
