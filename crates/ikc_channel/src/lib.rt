@@ -9,8 +9,9 @@ ghost use Rattle.hybrid_model.specs.Rings as rings;
 ghost use Rattle.ikc_channel.specs.Lines.{posted, without_first};
 ghost use Rattle.ikc_ring.specs.Rings as one_ring;
 ghost use Rattle.request_book.specs.Requests.{no_requests};
+ghost use Rattle.std.specs.List.{list_all};
 ghost use Rattle.std.specs.Option.{option_copied};
-ghost use Rattle.std.specs.Prelude.{◌≡◌, ◌<◌, ◌≤◌, [], IfOk, None, length, replicate};
+ghost use Rattle.std.specs.Prelude.{◌≡◌, ◌<◌, ◌==◌, ◌≤◌, ◌^◌, [], IfOk, None, length, replicate};
 
 use clear_rounds::Round;
 use ikc_ring::{Msg, Ring};
@@ -26,6 +27,18 @@ pub struct Rings {
     capacity: u32,
 }
 
+fn is_empty(one: &Ring) -> bool
+    ensures { result ≡ (length one.now.items == 0) }
+{
+    one.head().is_none()
+}
+
+fn all_are_empty(rings: &[Ring]) -> bool
+    ensures { result ≡ list_all (λ r. length r.items == 0) rings.now }
+{
+    rings.iter().all(|one| is_empty(one))
+}
+
 impl Model for Rings {
     ghost use Rattle.ikc_channel.specs.Lines.{EachTakes, Lines, lines_code, messages_of};
     ghost use Rattle.ikc_ring.specs.contracts.Msg as message;
@@ -39,6 +52,7 @@ impl Model for Rings {
     ghost invariant = { λ a. EachTakes a.capacity a.rings.items };
 }
 
+#[tactic(auto, using(crate::proofs::Places::places))]
 impl Rings {
     /// So many empty rings, each of which takes so many messages.
     pub fn new(alloc: Global, count: u32, capacity: u32) -> Result<Rings, NoMemory>
@@ -74,7 +88,11 @@ impl Rings {
     pub fn head(&self, r: u32) -> Option<&Msg>
         ensures { option_copied result ≡ rings.head_of (ring r self.now.messages) }
     {
-        self.rings.get(r as usize)?.head()
+        if (r as usize) < self.rings.len() {
+            self.rings[r as usize].head()
+        } else {
+            None
+        }
     }
 
     /// Takes the first message of a ring: None exactly where there is none.
@@ -82,9 +100,10 @@ impl Rings {
         ensures value { result ≡ rings.head_of (ring r self.old.messages) }
         ensures rest { self.new ≡ without_first r self.old }
     {
-        match self.rings.get_mut(r as usize) {
-            Some(one) => one.next(),
-            None => None,
+        if (r as usize) < self.rings.len() {
+            self.rings[r as usize].next()
+        } else {
+            None
         }
     }
 
@@ -92,7 +111,7 @@ impl Rings {
     pub fn are_empty(&self) -> bool
         ensures { result ≡ all_empty self.now.messages }
     {
-        self.rings.iter().all(|one| one.head().is_none())
+        all_are_empty(&self.rings)
     }
 }
 
