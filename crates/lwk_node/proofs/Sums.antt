@@ -1,5 +1,5 @@
 -- Sums over the rows of a map, after a row is put.
-use Rattle.lwk_node.specs.Totals.{instructions_in}
+use Rattle.lwk_node.specs.Totals.{counted, instructions_in}
 use Rattle.lwk_node.specs.declared.process_rows.Process.{Process}
 use Rattle.mck_word.specs.Maps.{Map, at, entries, no_rows, put, total}
 use Rattle.std.proofs.Common.{ap, arith, refl, ◌∙◌, sym}
@@ -9,7 +9,7 @@ use Rattle.std.specs.Cmp.{nat_cmp_total, unsigned_tied}
 use Rattle.std.specs.FinMap as finmap
 use Rattle.std.specs.FinMap.Entries as fin
 use Rattle.std.specs.Ordering.{is_lt, nat_cmp}
-use Rattle.std.specs.Prelude.{Bool, List, None, Option, Some, T, [], cond, false, length, nat_lt, sum_by, true, ℕ, ◌&&◌, ◌+◌, ◌<◌, ◌==◌, ◌∷◌, ◌≡◌, ◌≤◌}
+use Rattle.std.specs.Prelude.{Bool, List, None, Option, Some, T, [], cond, false, length, nat_lt, sum_by, true, ℕ, ◌&&◌, ◌+◌, ◌-◌, ◌<◌, ◌==◌, ◌∷◌, ◌≡◌, ◌≤◌}
 use Rattle.std.specs.declared.cmp.Ordering.TheVariants.{Less, Equal, Greater}
 
 both : (a b : Bool) → (a && b) ≡ true → (a ≡ true) × (b ≡ true)
@@ -106,21 +106,32 @@ module _ {V : Type 0} (f : V → ℕ) where
 
 -- the instructions of all processes, when one process changes
 module _ (m : Map Process) (k : ℕ) (x : Process) (there : at m k ≡ Some x) where
-  counted : (w : Process) → instructions_in (put m k w) + x.instructions ≡ instructions_in m + w.instructions
-  counted w = let a = total-put (λ (p : Process). p.instructions) m k w in let b = ap (counted_in (λ (p : Process). p.instructions)) there in omega (arith, a, b)
+  sum_with : (w : Process) → instructions_in (put m k w) + x.instructions ≡ instructions_in m + w.instructions
+  sum_with w = let a = total-put (λ (p : Process). p.instructions) m k w in let b = ap (counted_in (λ (p : Process). p.instructions)) there in omega (arith, a, b)
 
   pub within : x.instructions ≤ instructions_in m
-  within = let a = counted (record x { instructions = 0 }) in omega (arith, a)
+  within = let a = sum_with (record x { instructions = 0 }) in omega (arith, a)
 
   pub kept : (w : Process) → w.instructions ≡ x.instructions → instructions_in m ≡ instructions_in (put m k w)
-  kept w e = let a = counted w in omega (arith, a, e)
+  kept w e = let a = sum_with w in omega (arith, a, e)
 
   pub grown : (w : Process) (n : ℕ) → w.instructions ≡ x.instructions + n → instructions_in m + n ≡ instructions_in (put m k w)
-  grown w n e = let a = counted w in omega (arith, a, e)
+  grown w n e = let a = sum_with w in omega (arith, a, e)
+
+at_process : (o : Option Process) → counted_in (λ (p : Process). p.instructions) o ≡ counted o
+at_process None = refl
+at_process (Some x) = refl
+
+pub counted_within : (m : Map Process) (k : ℕ) → counted (at m k) ≤ instructions_in m
+counted_within m k = go (at m k) refl
+  where
+    go : (o : Option Process) → at m k ≡ o → counted o ≤ instructions_in m
+    go None e = omega arith
+    go (Some x) e = within m k x e
 
 -- a process put in, where there may be another
-pub replaced : (m : Map Process) (k : ℕ) (w : Process) → instructions_in (put m k w) + counted_in (λ (p : Process). p.instructions) (at m k) ≡ instructions_in m + w.instructions
-replaced m k w = total-put (λ (p : Process). p.instructions) m k w
+pub replaced : (m : Map Process) (k : ℕ) (w : Process) → instructions_in m + w.instructions - counted (at m k) ≡ instructions_in (put m k w)
+replaced m k w = let a = total-put (λ (p : Process). p.instructions) m k w in let b = at_process (at m k) in omega (arith, a, b)
 
 pub none_in : instructions_in no_rows ≡ 0
 none_in = go (entries no_rows) (sym (finmap.len-entries (no_rows {V = Process})) ∙ finmap.len-empty nat_cmp Process)

@@ -1,2 +1,4 @@
 pub mod Totals
 pub mod Shown
+pub mod Room
+pub mod Steps

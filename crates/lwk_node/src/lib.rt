@@ -6,8 +6,12 @@
 //! changed in place, and the instructions of all processes are kept, not summed.
 #![tactic(auto)]
 
+mod may;
 pub mod process_rows;
+mod signals;
 pub mod tables;
+mod thread_rows;
+mod threads;
 
 pub use process_rows::{Process, Processes};
 pub use tables::{Node, ScriptLine};

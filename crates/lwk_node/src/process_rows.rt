@@ -1,13 +1,16 @@
 // The processes of a node by number, beside the number of their instructions.
-ghost use Rattle.std.specs.Prelude.{◌≡◌, ◌≤◌, ◌<◌, ◌+◌, ◌^◌, OnOk};
+ghost use Rattle.std.specs.Prelude.{◌≡◌, ◌≤◌, ◌<◌, ◌+◌, ◌^◌, OnOk, Some, true};
 ghost use Rattle.std.specs.Option.{option_copied};
 ghost use Rattle.kernel_model.specs.Nodes.{dies_from};
+ghost use Rattle.kernel_model.specs.Traps.{life_ended};
+ghost use Rattle.kernel_model.specs.SignalSets.{with_signal as set_with, without_signal as set_without};
+ghost use Rattle.lwk_signals.specs.Actions.{with_action_at};
 ghost use Rattle.mck_word.specs.Maps.{at, change, count, no_rows, put};
-ghost use Rattle.lwk_node.specs.Totals.{instructions_in};
+ghost use Rattle.lwk_node.specs.Totals.{counted, instructions_in};
 
+use kernel_model::{Action, Life};
 use key_rows::Rows;
-use kernel_model::Life;
-use lwk_signals::Actions;
+use lwk_signals::{Actions, with_signal, without_signal};
 use mck_flags::SigSet;
 use mck_word::{End, NoMemory, Pid};
 use std::alloc::Global;
@@ -50,6 +53,17 @@ impl Model for Processes {
     ghost view = { λ a. a.rows };
 
     ghost invariant = { λ a. a.instructions ≡ instructions_in a.rows.map };
+}
+
+/// The instructions of the process, or 0 where there is none.
+fn instructions_at(rows: &Rows<Process>, p: Pid) -> u64
+    ensures is { result ≡ counted (at rows.now.map p.0) }
+    ensures within { result ≤ instructions_in rows.now.map }
+{
+    match rows.get(p.0 as u64) {
+        Some(x) => x.instructions,
+        None => 0,
+    }
 }
 
 impl Processes {
@@ -118,5 +132,105 @@ impl Processes {
             row.instructions += n;
             self.instructions += n;
         }
+    }
+
+    /// Notes the code that the first thread of the process gave to exit.
+    pub fn set_first_code(&mut self, p: Pid, code: u32)
+        ensures { self.new ≡ record self.old { map = change self.old.map p.0 (λ x. record x { first_code = Some code }) } }
+    {
+        if self.rows.get(p.0 as u64).is_some() {
+            let row = self.rows.row_mut(p.0 as u64);
+            row.first_code = Some(code);
+        }
+    }
+
+    /// Notes that the end of the process was waited for.
+    pub fn set_waited(&mut self, p: Pid)
+        ensures { self.new ≡ record self.old { map = change self.old.map p.0 (λ x. record x { waited = true }) } }
+    {
+        if self.rows.get(p.0 as u64).is_some() {
+            let row = self.rows.row_mut(p.0 as u64);
+            row.waited = true;
+        }
+    }
+
+    /// Gives the process another pending set.
+    pub fn set_pending(&mut self, p: Pid, v: SigSet)
+        ensures { self.new ≡ record self.old { map = change self.old.map p.0 (λ x. record x { pending = v }) } }
+    {
+        if self.rows.get(p.0 as u64).is_some() {
+            let row = self.rows.row_mut(p.0 as u64);
+            row.pending = v;
+        }
+    }
+
+    /// A signal is pending for the process.
+    pub fn pend(&mut self, p: Pid, signal: u32)
+        requires least { 1 ≤ signal }
+        requires most { signal ≤ 64 }
+        ensures { self.new ≡ record self.old { map = change self.old.map p.0 (λ x. record x { pending = record { 0 = set_with signal x.pending.0 } }) } }
+    {
+        if self.rows.get(p.0 as u64).is_some() {
+            let row = self.rows.row_mut(p.0 as u64);
+            row.pending = with_signal(signal, row.pending);
+        }
+    }
+
+    /// A signal is pending for the process no longer.
+    pub fn unpend(&mut self, p: Pid, signal: u32)
+        requires least { 1 ≤ signal }
+        requires most { signal ≤ 64 }
+        ensures { self.new ≡ record self.old { map = change self.old.map p.0 (λ x. record x { pending = record { 0 = set_without signal x.pending.0 } }) } }
+    {
+        if self.rows.get(p.0 as u64).is_some() {
+            let row = self.rows.row_mut(p.0 as u64);
+            row.pending = without_signal(signal, row.pending);
+        }
+    }
+
+    /// Gives a signal another action.
+    pub fn set_action(&mut self, p: Pid, signal: u32, a: Action)
+        requires least { 1 ≤ signal }
+        requires most { signal ≤ 64 }
+        ensures { self.new ≡ record self.old { map = change self.old.map p.0 (λ x. record x { actions = with_action_at x.actions signal a }) } }
+    {
+        if self.rows.get(p.0 as u64).is_some() {
+            let row = self.rows.row_mut(p.0 as u64);
+            row.actions.set(signal, a);
+        }
+    }
+
+    /// Gives the process another program break.
+    pub fn set_break(&mut self, p: Pid, a: u64)
+        ensures { self.new ≡ record self.old { map = change self.old.map p.0 (λ x. record x { program_break = a }) } }
+    {
+        if self.rows.get(p.0 as u64).is_some() {
+            let row = self.rows.row_mut(p.0 as u64);
+            row.program_break = a;
+        }
+    }
+
+    /// The process, where it dies, is Ended.
+    pub fn ends(&mut self, p: Pid)
+        ensures { self.new ≡ record self.old { map = change self.old.map p.0 (λ x. record x { life = life_ended x.life }) } }
+    {
+        if self.rows.get(p.0 as u64).is_some() {
+            let row = self.rows.row_mut(p.0 as u64);
+            if let Life::Dying(end) = row.life {
+                row.life = Life::Ended(end);
+            }
+        }
+    }
+
+    /// Puts a process in, in place of the one of that number where there is one.
+    pub fn put(&mut self, p: Pid, process: Process)
+        requires room { 1 ≤ self.old.spare }
+        requires fits { instructions_in self.old.map + process.instructions < 2 ^ 64 }
+        ensures map { self.new.map ≡ put self.old.map p.0 process }
+        ensures takes { self.old.spare ≤ self.new.spare + 1 }
+    {
+        let before = instructions_at(&self.rows, p);
+        self.instructions = self.instructions + process.instructions - before;
+        self.rows.put(p.0 as u64, process);
     }
 }

@@ -17,7 +17,7 @@ use Rattle.std.specs.Ordering.{eq_by_cmp, is_lt, nat_cmp}
 use Rattle.std.specs.Prelude.{T, filter, map as map_list, slice_index, ◌&&◌}
 
 module _ {V W : Type 0} (f : V → W) where
-  abbrev pair_of : ℕ × V → ℕ × W
+  abbrev pub pair_of : ℕ × V → ℕ × W
   pair_of e = (e.0, f e.1)
 
   find-mapped : (q : ℕ) (es : List (ℕ × V)) → find nat_cmp q (map_list pair_of es) ≡ and_then (find nat_cmp q es) (λ v. Some (f v))
@@ -41,13 +41,16 @@ module _ {V W : Type 0} (f : V → W) where
   values-mapped (e ∷ es) = ap (λ t. f e.1 ∷ t) (values-mapped es)
 
   -- each value changed, in the same order
-  pub values-each : (m : Map V) → values (each f m) ≡ map_list f (values m)
-  values-each m =
+  pub entries-each : (m : Map V) → entries (each f m) ≡ map_list pair_of (entries m)
+  entries-each m =
       let rising = subst T (sym (sorted-mapped (entries m))) (map.entries_sorted m) in
       let same : each f m ≡ from_sorted {R = nat_cmp} (map_list pair_of (entries m)) = same_rows _ _ (λ q.
       at-collect (λ k v. Some (f v)) m q ∙ ap (λ o. and_then o (λ v. Some (f v))) (map.get-entries m q) ∙ sym (find-mapped q (entries m))
       ∙ sym (map.get-from_sorted nat_cmp (map_list pair_of (entries m)) q rising)) in
-      ap (λ n. values n) same ∙ ap (map_list (λ e. e.1)) (map.entries-from_sorted nat_cmp (map_list pair_of (entries m)) rising) ∙ values-mapped (entries m)
+      ap (λ n. entries n) same ∙ map.entries-from_sorted nat_cmp (map_list pair_of (entries m)) rising
+
+  pub values-each : (m : Map V) → values (each f m) ≡ map_list f (values m)
+  values-each m = ap (map_list (λ e. e.1)) (entries-each m) ∙ values-mapped (entries m)
 
 module _ {S : Type 0} (does : S → Does) where
   places-shown : (p : ℕ) (xs : List (Thread S)) → map_list (λ (x : NodeThread). x.place) (filter (λ (x : NodeThread). eqb x.process p) (map_list (shown does) xs)) ≡ map_list (λ (x : Thread S). x.place) (filter (is_of p) xs)

@@ -9,11 +9,11 @@
 pub mod clone_values;
 pub mod member_rows;
 
-ghost use Rattle.std.specs.Prelude.{◌≡◌, ◌≤◌, ◌<◌, ◌+◌, ◌-◌, ◌^◌, ◌%◌, OnOk, IsTrue, IsSome, None, Some, option_map, length, filter, List, ℕ, slice_index};
+ghost use Rattle.std.specs.Prelude.{◌≡◌, ◌≤◌, ◌<◌, ◌+◌, ◌-◌, ◌^◌, ◌%◌, OnOk, IsTrue, IsSome, None, Some, option_map, length, filter, MatchOption, List, ℕ, slice_index};
 ghost use Rattle.std.specs.Option.{option_copied};
 ghost use Rattle.kernel_model.specs.Nodes.{most_threads};
 ghost use Rattle.key_rows.specs.Table.{key_from};
-ghost use Rattle.mck_word.specs.Maps.{at, values};
+ghost use Rattle.mck_word.specs.Maps.{at, entries, values};
 ghost use Rattle.lwk_threads.specs.Threads.{Threads, changed, cloned, first_thread, is_of, live_threads, lives, lowest_free_place, no_threads, peers_of, stands_at, with_clone, with_thread, without_thread};
 ghost use Rattle.kernel_model.specs.CloneCalls.{cloned_thread};
 ghost use Rattle.kernel_model.specs.Nodes.{Node};
@@ -266,9 +266,17 @@ impl<S: Drop> ThreadTable<S> {
         part(&mut self.groups, x.pid, x.place);
     }
 
+    /// The live threads in the order of their numbers.
+    pub fn rows(&self) -> &[(u64, Thread<S>)]
+        ensures { result.now ≡ entries self.now.threads.rows }
+    {
+        self.rows.as_slice()
+    }
+
     /// The lowest live thread from there on: None exactly where there is none.
     pub fn next(&self, from: Tid) -> Option<Tid>
-        ensures { option_map (λ t. t.0) result ≡ key_from self.now.threads.rows from.0 }
+        ensures is { option_map (λ t. t.0) result ≡ key_from self.now.threads.rows from.0 }
+        ensures below { MatchOption result (Unit {0}) (λ t. t.0 < self.now.threads.next) }
     {
         // No key is above the next number, which fits.
         let _limit = self.fresh();

@@ -12,3 +12,11 @@ overflow_cast-result g c =
       | inl l ↦ let limit = c.fresh-limit.ensures.next in let next = ap (λ (v : Spared g.row.S.Denot). v.threads.next) c.self.view_is in record { fits = omega arith }
       | inr up ↦ absurd (true≢false (sym there ∙ ap is_some (c.self.invariant.unused c.in-Some.key up)))
     ]
+
+pub returns-in-Some-clause-below : goal.returns-in-Some-clause-below
+returns-in-Some-clause-below g c =
+    let there = key_from-stands c.self.inside.rows.map c.args.from.0 c.in-Some.key (sym c.in-Some.ensures) in
+    elim (cases_lt c.in-Some.key c.self.inside.next_tid) [
+      | inl l ↦ let next = ap (λ (v : Spared g.row.S.Denot). v.threads.next) c.self.view_is in omega arith
+      | inr up ↦ absurd (true≢false (sym there ∙ ap is_some (c.self.invariant.unused c.in-Some.key up)))
+    ]
