@@ -92,7 +92,7 @@ looked-there (Some v) a w e = by_allowed (allows a v.1) e
     by_allowed true e = e
     by_allowed false e = absurd (cc)
 
-some-at : (pages : List (List ℕ)) (f : ℕ) → f < length pages → slice_index_or (map Some pages) f None ≡ Some (slice_index_or pages f [])
+pub some-at : (pages : List (List ℕ)) (f : ℕ) → f < length pages → slice_index_or (map Some pages) f None ≡ Some (slice_index_or pages f [])
 some-at [] f l = absurd (omega arith)
 some-at (x ∷ xs) zero l = refl
 some-at (x ∷ xs) (suc f) l = some-at xs f (omega arith)

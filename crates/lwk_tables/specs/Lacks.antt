@@ -6,7 +6,7 @@ use Rattle.isa_model.specs.declared.stops.Lack.{Lack}
 use Rattle.lwk_tables.specs.Frames.{frames_map}
 use Rattle.mck_word.specs.Maps.{Map, at}
 use Rattle.mck_word.specs.declared.Access.{Access}
-use Rattle.std.specs.Prelude.{IsSome, List, None, Some, false, true, ℕ, ◌*◌, ◌+◌, ◌/◌, ◌^◌, ◌<◌, ◌≡◌, ◌≢◌, ◌≤◌}
+use Rattle.std.specs.Prelude.{IsSome, List, None, Some, [], false, slice_index_or, true, ℕ, ◌*◌, ◌+◌, ◌/◌, ◌^◌, ◌<◌, ◌≡◌, ◌≢◌, ◌≤◌}
 
 -- of the pages that n bytes from an address on touch, the first that is absent or lacks the right
 pub record IsFirstLack (m : Memory) (a : Access) (address n : ℕ) (l : Lack) : Type 0 where
@@ -24,6 +24,10 @@ memory rows pages = shown_memory rows (frames_map pages)
 -- no row has the frame
 abbrev pub NoRowHas : Map Row → ℕ → Type 0
 NoRowHas rows f = (k : ℕ) (w : Row) → at rows k ≡ Some w → w.0.0 ≢ f
+
+-- the frames that no row has stay
+abbrev pub OthersStay : Map Row → List (List ℕ) → List (List ℕ) → Type 0
+OthersStay rows before after = (f : ℕ) → NoRowHas rows f → slice_index_or after f [] ≡ slice_index_or before f []
 
 -- no page of a table from `first` on, up to `end`, is absent or lacks the right
 abbrev pub NoneLacks : Map Row → Access → ℕ → ℕ → Type 0

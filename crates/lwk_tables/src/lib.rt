@@ -2,12 +2,14 @@
 //!
 //! Promises: `map`, `unmap` and `protect` are the definitions' changes of a space, page by page (hybrid_model's specs/Spaces); `read` and
 //! `write` are the bytes of the memory that the table shows (isa_model's specs/Memory), all or nothing, and name the first page that
-//! lacks (specs/Lacks); the mapped pages are those of the table. No call but `make_room` and `reserve` takes memory or fails. The conditions on rows, frames and
+//! lacks (specs/Lacks); the mapped pages are those of the table. Stores change the frames as the memory
+//! that the table shows, written back, does (`stores_are_written_back`). No call but `make_room` and `reserve` takes memory or fails. The conditions on rows, frames and
 //! room stand in specs/Rows.
 #![tactic(auto)]
 
 mod bytes;
 mod changes;
+mod laws;
 
 ghost use Rattle.frame_pool.specs.Pools.{Pool};
 ghost use Rattle.hybrid_model.specs.Sides.{looked_up};
@@ -26,6 +28,8 @@ ghost use Rattle.std.specs.Prelude.{◌≡◌, ◌≤◌, ◌<◌, ◌+◌, ◌^
 
 use bytes::row_at;
 use changes::{add_pages, drop_pages, protect_pages};
+pub use laws::stores_are_written_back;
+
 use frame_mem::FrameMem;
 use frame_pool::FramePool;
 use isa_model::Lack;
