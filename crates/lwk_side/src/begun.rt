@@ -17,9 +17,17 @@ use kernel_model::Does;
 use mck_word::Tid;
 use page_map::PageTable;
 
+#[tactic(auto, using(mck_word::specs::EachLaws::each_maps), unfolding(hybrid_model::specs::Lwk::begin_call))]
 impl Lwk {
     /// A delegated call of the thread begins: it has the next number, and its Request is posted to the ring of the thread.
-    pub fn begin_call<T: PageTable>(&mut self, task: &mut Task<T>, channel: &mut Channel, t: Tid, number: u64, args: &[u64; 6])
+    pub fn begin_call<T: PageTable>(
+        &mut self,
+        task: &mut Task<T>,
+        channel: &mut Channel,
+        t: Tid,
+        number: u64,
+        args: &[u64; 6],
+    )
         requires wired { Wired self.old channel.old.to_linux }
         requires place { HasPlace self.old channel.old.to_linux t.0 }
         requires room { 1 ≤ channel.old.book.spare }

@@ -13,6 +13,7 @@ use ikc_ring::Msg;
 use mck_word::{PageRange, Tid};
 use page_map::PageTable;
 
+#[tactic(auto, unfolding(hybrid_model::specs::Lwk::begin_round))]
 impl Lwk {
     /// Whether the thread's change may begin its round: its process lives, and no round is under way.
     pub fn may_begin_vm<T: PageTable>(&self, task: &Task<T>, channel: &Channel, t: Tid) -> bool
@@ -24,7 +25,13 @@ impl Lwk {
     }
 
     /// The round over a range begins for the thread, and its Clear is posted.
-    pub fn begin_round<T: PageTable>(&self, task: &mut Task<T>, channel: &mut Channel, t: Tid, range: PageRange)
+    pub fn begin_round<T: PageTable>(
+        &self,
+        task: &mut Task<T>,
+        channel: &mut Channel,
+        t: Tid,
+        range: PageRange,
+    )
         requires wired { Wired self.now channel.old.to_linux }
         requires place { HasPlace self.now channel.old.to_linux t.0 }
         requires none { channel.old.round ≡ None }
