@@ -107,7 +107,7 @@ shown-put rows frames page w bytes there apart q = elim (cases_eq q page) [
         ∙ ap (λ b. cond b (Some bytes) (at frames v.0.0)) (ne_eqb v.0.0 w.0.0 (λ same. o (apart q page v w e there same))))
 
 -- other bytes of a row's frame are other bytes of its page
-shown-set : (rows : Map Row) (pages : List (List ℕ)) (page : ℕ) (w : Row) (bytes : List ℕ) → at rows page ≡ Some w → FramesApart rows → w.0.0 < length pages
+pub shown-set : (rows : Map Row) (pages : List (List ℕ)) (page : ℕ) (w : Row) (bytes : List ℕ) → at rows page ≡ Some w → FramesApart rows → w.0.0 < length pages
     → memory rows (slice_set pages w.0.0 bytes) ≡ put (memory rows pages) page (page_of w.1 bytes)
 shown-set rows pages page w bytes there apart inside =
     ap (λ frames. shown_memory rows frames) (frames-set pages w.0.0 bytes inside)

@@ -1,0 +1,4 @@
+pub mod Counted
+pub mod RunEvents
+pub mod Stored
+pub mod ThreadRuns
