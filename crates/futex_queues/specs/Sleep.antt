@@ -38,6 +38,10 @@ waiters process address list = filter (sleeps_at process address) list
 abbrev pub is_thread : ℕ → Sleeper → Bool
 is_thread t s = s.thread == t
 
+-- whether the thread is one of the process
+abbrev pub is_of : ℕ → Sleeper → Bool
+is_of p s = s.process == p
+
 abbrev pub is_waiter : List Sleeper → Sleeper → Bool
 is_waiter woken s = list_any (λ w. w.thread == s.thread) woken
 

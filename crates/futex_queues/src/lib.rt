@@ -9,7 +9,7 @@ ghost use Rattle.std.specs.Prelude.{◌≡◌, ◌≤◌, ◌<◌, ◌+◌, ◌-
 ghost use Rattle.std.specs.List.{list_any};
 ghost use Rattle.kernel_model.specs.Nodes.{most_threads};
 ghost use Rattle.mck_word.specs.Lists.{without};
-ghost use Rattle.futex_queues.specs.Sleep.{is_thread, left, shown, sleeps_at, thread_of, waiters};
+ghost use Rattle.futex_queues.specs.Sleep.{is_of, is_thread, left, shown, sleeps_at, thread_of, waiters};
 
 use mck_word::{NoMemory, Pid, Tid};
 use std::alloc::Global;
@@ -149,6 +149,14 @@ impl Sleepers {
             count += 1;
         }
         count
+    }
+
+    /// Takes the threads of the process out.
+    pub fn leave_process(&mut self, pid: Pid)
+        ensures list { self.new.list ≡ without (is_of pid.0) self.old.list }
+        ensures room { self.old.spare ≤ self.new.spare }
+    {
+        self.rows.retain(|w| w.pid.0 != pid.0);
     }
 
     /// Takes the thread out, where it sleeps.

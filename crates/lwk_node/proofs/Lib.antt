@@ -4,3 +4,6 @@ pub mod Chosen
 pub mod Lines
 pub mod Passing
 pub mod Twice
+pub mod RowsPassed
+pub mod Collected
+pub mod Living

@@ -1,15 +1,17 @@
 -- Sums over the rows of a map, after a row is put.
-use Rattle.lwk_node.specs.Totals.{counted, instructions_in}
+use Rattle.lwk_node.specs.Totals.{IsProcesses, counted, instructions_in}
 use Rattle.lwk_node.specs.declared.process_rows.Process.{Process}
+use Rattle.mck_word.specs.MapLaws.{at-none, at-put}
 use Rattle.mck_word.specs.Maps.{Map, at, entries, no_rows, put, total}
-use Rattle.std.proofs.Common.{ap, arith, refl, ◌∙◌, sym}
+use Rattle.std.proofs.Common.{ap, arith, inl, inr, refl, ◌∙◌, sym}
 use Rattle.std.proofs.lemmas.Bool.Decides.{nat_tests}
+use Rattle.std.proofs.lemmas.Bool.{cases_lt}
 use Rattle.std.proofs.lemmas.List.Sums.{sum_by-cons}
 use Rattle.std.specs.Cmp.{nat_cmp_total, unsigned_tied}
 use Rattle.std.specs.FinMap as finmap
 use Rattle.std.specs.FinMap.Entries as fin
 use Rattle.std.specs.Ordering.{is_lt, nat_cmp}
-use Rattle.std.specs.Prelude.{Bool, List, None, Option, Some, T, [], cond, false, length, nat_lt, sum_by, true, ℕ, ◌&&◌, ◌+◌, ◌-◌, ◌<◌, ◌==◌, ◌∷◌, ◌≡◌, ◌≤◌}
+use Rattle.std.specs.Prelude.{Bool, List, None, Option, Some, T, [], cond, false, length, nat_lt, sum_by, true, ℕ, ◌&&◌, ◌+◌, ◌-◌, ◌<◌, ◌^◌, ◌==◌, ◌∷◌, ◌≡◌, ◌≤◌}
 use Rattle.std.specs.declared.cmp.Ordering.TheVariants.{Less, Equal, Greater}
 
 both : (a b : Bool) → (a && b) ≡ true → (a ≡ true) × (b ≡ true)
@@ -112,10 +114,10 @@ module _ (m : Map Process) (k : ℕ) (x : Process) (there : at m k ≡ Some x) w
   pub within : x.instructions ≤ instructions_in m
   within = let a = sum_with (record x { instructions = 0 }) in omega (arith, a)
 
-  pub kept : (w : Process) → w.instructions ≡ x.instructions → instructions_in m ≡ instructions_in (put m k w)
+  kept : (w : Process) → w.instructions ≡ x.instructions → instructions_in m ≡ instructions_in (put m k w)
   kept w e = let a = sum_with w in omega (arith, a, e)
 
-  pub grown : (w : Process) (n : ℕ) → w.instructions ≡ x.instructions + n → instructions_in m + n ≡ instructions_in (put m k w)
+  grown : (w : Process) (n : ℕ) → w.instructions ≡ x.instructions + n → instructions_in m + n ≡ instructions_in (put m k w)
   grown w n e = let a = sum_with w in omega (arith, a, e)
 
 at_process : (o : Option Process) → counted_in (λ (p : Process). p.instructions) o ≡ counted o
@@ -130,12 +132,39 @@ counted_within m k = go (at m k) refl
     go (Some x) e = within m k x e
 
 -- a process put in, where there may be another
-pub replaced : (m : Map Process) (k : ℕ) (w : Process) → instructions_in m + w.instructions - counted (at m k) ≡ instructions_in (put m k w)
+replaced : (m : Map Process) (k : ℕ) (w : Process) → instructions_in m + w.instructions - counted (at m k) ≡ instructions_in (put m k w)
 replaced m k w = let a = total-put (λ (p : Process). p.instructions) m k w in let b = at_process (at m k) in omega (arith, a, b)
 
-pub none_in : instructions_in no_rows ≡ 0
+none_in : instructions_in no_rows ≡ 0
 none_in = go (entries no_rows) (sym (finmap.len-entries (no_rows {V = Process})) ∙ finmap.len-empty nat_cmp Process)
   where
     go : (es : List (ℕ × Process)) → length es ≡ 0 → sum_by (λ (e : ℕ × Process). e.1.instructions) es ≡ 0
     go [] e = refl
     go (x ∷ es) e = absurd (grind (arith, e))
+
+-- what each kind of move keeps
+pub IsProcesses-none : IsProcesses 0 no_rows
+IsProcesses-none = record { kept = sym none_in; small = λ k _. at-none k }
+
+module _ (i : ℕ) (m : Map Process) (h : IsProcesses i m) where
+  pub IsProcesses-put : (k : ℕ) (w : Process) → k < 2 ^ 32 → IsProcesses (i + w.instructions - counted (at m k)) (put m k w)
+  IsProcesses-put k w fits = record {
+    kept = (λ j. h.kept j + w.instructions - counted (at m k)) ∙ replaced m k w;
+    small = λ q up. (let e : (q == k) ≡ false = grind (arith, nat_tests, up, fits) in at-put m k w q ∙ ap (λ b. cond b (Some w) (at m q)) e ∙ h.small q up);
+  }
+
+  module _ (k : ℕ) (x : Process) (there : at m k ≡ Some x) where
+    below : k < 2 ^ 32
+    below = elim (cases_lt k (2 ^ 32)) [
+      | inl l ↦ l
+      | inr u ↦ absurd (let bad = sym (h.small k u) ∙ there in cc)
+    ]
+
+    small_put : (w : Process) (q : ℕ) → 2 ^ 32 ≤ q → at (put m k w) q ≡ None
+    small_put w q up = let e : (q == k) ≡ false = grind (arith, nat_tests, up, below) in at-put m k w q ∙ ap (λ b. cond b (Some w) (at m q)) e ∙ h.small q up
+
+    pub IsProcesses-set : (w : Process) → w.instructions ≡ x.instructions → IsProcesses i (put m k w)
+    IsProcesses-set w e = record { kept = h.kept ∙ kept m k x there w e; small = small_put w }
+
+    pub IsProcesses-grown : (w : Process) (n : ℕ) → w.instructions ≡ x.instructions + n → IsProcesses (i + n) (put m k w)
+    IsProcesses-grown w n e = record { kept = ap (λ j. j + n) h.kept ∙ grown m k x there w n e; small = small_put w }

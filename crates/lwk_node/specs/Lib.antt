@@ -2,3 +2,4 @@ pub mod Totals
 pub mod Shown
 pub mod Room
 pub mod Steps
+pub mod Passes

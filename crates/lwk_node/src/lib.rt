@@ -6,7 +6,9 @@
 //! changed in place, and the instructions of all processes are kept, not summed.
 #![tactic(auto)]
 
+mod ends;
 mod may;
+mod passes;
 pub mod process_rows;
 mod signals;
 pub mod tables;

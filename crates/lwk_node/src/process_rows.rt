@@ -1,12 +1,13 @@
 // The processes of a node by number, beside the number of their instructions.
-ghost use Rattle.std.specs.Prelude.{◌≡◌, ◌≤◌, ◌<◌, ◌+◌, ◌^◌, OnOk, Some, true};
+ghost use Rattle.std.specs.Prelude.{◌≡◌, ◌≤◌, ◌<◌, ◌+◌, ◌^◌, OnOk, Some, true, None, ℕ};
 ghost use Rattle.std.specs.Option.{option_copied};
 ghost use Rattle.kernel_model.specs.Nodes.{dies_from};
 ghost use Rattle.kernel_model.specs.Traps.{life_ended};
 ghost use Rattle.kernel_model.specs.SignalSets.{with_signal as set_with, without_signal as set_without};
+ghost use Rattle.mck_word.specs.declared.End.TheVariants.{Exit};
 ghost use Rattle.lwk_signals.specs.Actions.{with_action_at};
-ghost use Rattle.mck_word.specs.Maps.{at, change, count, no_rows, put};
-ghost use Rattle.lwk_node.specs.Totals.{counted, instructions_in};
+ghost use Rattle.mck_word.specs.Maps.{at, change, count, entries, no_rows, put};
+ghost use Rattle.lwk_node.specs.Totals.{counted, first_code_of, instructions_in};
 
 use kernel_model::{Action, Life};
 use key_rows::Rows;
@@ -22,7 +23,7 @@ use std::marker::Model;
 pub struct Process {
     pub parent: Pid,
     pub waited: bool,
-    pub first_code: Option<u32>,
+    pub first_code: Option<u8>,
     pub life: Life,
     pub instructions: u64,
     pub actions: Actions,
@@ -41,10 +42,9 @@ pub struct Processes {
 
 impl Model for Processes {
     ghost use Rattle.key_rows.specs.Table.{Table, table_code};
-    ghost use Rattle.std.specs.Prelude.{◌≡◌};
     ghost use Rattle.lwk_node.specs.declared.process_rows.Process.{Process};
     ghost use Rattle.lwk_node.specs.contracts.process_rows.Process as process;
-    ghost use Rattle.lwk_node.specs.Totals.{instructions_in};
+    ghost use Rattle.lwk_node.specs.Totals.{IsProcesses};
 
     ghost Value = { Table Process };
 
@@ -52,7 +52,7 @@ impl Model for Processes {
 
     ghost view = { λ a. a.rows };
 
-    ghost invariant = { λ a. a.instructions ≡ instructions_in a.rows.map };
+    ghost invariant = { λ a. IsProcesses a.instructions a.rows.map };
 }
 
 /// The instructions of the process, or 0 where there is none.
@@ -64,6 +64,13 @@ fn instructions_at(rows: &Rows<Process>, p: Pid) -> u64
         Some(x) => x.instructions,
         None => 0,
     }
+}
+
+/// The code that the first thread of the process gave, or 0.
+fn first_code_of(x: &Process) -> u8
+    ensures { result ≡ first_code_of x.now }
+{
+    x.first_code.unwrap_or(0)
 }
 
 impl Processes {
@@ -82,6 +89,14 @@ impl Processes {
         ensures { option_copied result ≡ at self.now.map p.0 }
     {
         self.rows.get(p.0 as u64)
+    }
+
+    /// The processes in the order of their numbers.
+    pub fn rows(&self) -> &[(u64, Process)]
+        ensures rows { result.now ≡ entries self.now.map }
+        ensures small { (k : ℕ) → 2 ^ 32 ≤ k → at self.now.map k ≡ None }
+    {
+        self.rows.as_slice()
     }
 
     /// How many processes there are.
@@ -122,6 +137,18 @@ impl Processes {
         }
     }
 
+    /// The process, where it lives, dies with the code that its first thread gave, or 0.
+    pub fn dies_by_code(&mut self, p: Pid)
+        ensures { self.new ≡ record self.old { map = change self.old.map p.0 (λ x. record x { life = dies_from (Exit (first_code_of x)) x.life }) } }
+    {
+        if self.rows.get(p.0 as u64).is_some() {
+            let row = self.rows.row_mut(p.0 as u64);
+            if row.life == Life::Living {
+                row.life = Life::Dying(End::Exit(first_code_of(row)));
+            }
+        }
+    }
+
     /// Counts instructions of the process.
     pub fn add_instructions(&mut self, p: Pid, n: u64)
         requires { instructions_in self.old.map + n < 2 ^ 64 }
@@ -135,7 +162,7 @@ impl Processes {
     }
 
     /// Notes the code that the first thread of the process gave to exit.
-    pub fn set_first_code(&mut self, p: Pid, code: u32)
+    pub fn set_first_code(&mut self, p: Pid, code: u8)
         ensures { self.new ≡ record self.old { map = change self.old.map p.0 (λ x. record x { first_code = Some code }) } }
     {
         if self.rows.get(p.0 as u64).is_some() {

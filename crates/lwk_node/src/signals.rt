@@ -4,14 +4,15 @@ ghost use Rattle.file_model.specs.Errno.{EINTR, EPIPE};
 ghost use Rattle.file_model.specs.Files.{Files};
 ghost use Rattle.kernel_model.specs.Nodes.{change_process, change_thread, dies, process_of};
 ghost use Rattle.kernel_model.specs.SignalSets.{with_signal as set_with, without_signal as set_without};
-ghost use Rattle.kernel_model.specs.Signals.{generate_for_process, generate_for_thread, ignores, moved_to_own, raised, taken, with_action};
+ghost use Rattle.kernel_model.specs.Signals.{drop_ignored, generate_for_process, generate_for_thread, ignores, moved_to_own, raised, taken, with_action};
 ghost use Rattle.kernel_model.specs.Traps.{called_back, is_error, returns, returns_living};
 ghost use Rattle.kernel_model.specs.declared.Does.TheVariants.{Ready};
 ghost use Rattle.lwk_node.specs.Room.{KeepsRoom};
 ghost use Rattle.lwk_node.specs.Shown.{node_of};
+ghost use Rattle.lwk_node.specs.Steps.{threads_without_pending};
 
 use crate::tables::Node;
-use crate::thread_rows;
+use crate::{passes, thread_rows};
 use kernel_model::{Action, Does};
 use lwk_signals::has;
 use mck_word::{End, Pid, Tid};
@@ -219,5 +220,28 @@ impl Node {
         ensures room { KeepsRoom self.old self.new }
     {
         self.processes.set_action(p, signal, a);
+    }
+
+    /// A signal is pending no longer for the threads of the process.
+    fn unpend_threads(&mut self, p: Pid, signal: u32)
+        requires least { 1 ≤ signal }
+        requires most { signal ≤ 64 }
+        ensures node { (files : Files) → node_of self.new files ≡ threads_without_pending p.0 signal (node_of self.old files) }
+        ensures room { KeepsRoom self.old self.new }
+    {
+        passes::unpend_all(&mut self.threads, p, signal);
+    }
+
+    /// A signal that the process ignores from now on leaves all pending sets.
+    pub fn drop_ignored(&mut self, p: Pid, signal: u32)
+        requires least { 1 ≤ signal }
+        requires most { signal ≤ 64 }
+        ensures node { (files : Files) → node_of self.new files ≡ drop_ignored p.0 signal (node_of self.old files) }
+        ensures room { KeepsRoom self.old self.new }
+    {
+        if self.ignores(p, signal) {
+            self.unpend_process(p, signal);
+            self.unpend_threads(p, signal);
+        }
     }
 }

@@ -1,7 +1,7 @@
 use Rattle.key_rows.specs.Table.{Table}
 use Rattle.lwk_node.specs.Totals.{instructions_in}
 use Rattle.lwk_node.specs.declared.process_rows.Process.{Process}
-use Rattle.lwk_node.proofs.Sums.{grown, within}
+use Rattle.lwk_node.proofs.Sums.{IsProcesses-grown, within}
 use Rattle.std.proofs.Common.{ap, arith, refl, ◌+◌, ◌∙◌}
 use Rattle.lwk_node.proofs.process_rows.Processes.add_instructions.Goals as goal
 
@@ -9,4 +9,4 @@ pub overflow_add-row : goal.overflow_add-row
 overflow_add-row c = omega (arith, within c.self.inside.rows.map c.args.p.0 c.row_mut-row.result.now c.row_mut-row.ensures.value, ap (λ (t : Table Process). instructions_in t.map) c.self.view_is)
 
 pub invariant_of-self : goal.invariant_of-self
-invariant_of-self c = ap (λ k. k + c.args.n) c.self.invariant ∙ grown c.self.inside.rows.map c.args.p.0 c.row_mut-row.result.now c.row_mut-row.ensures.value _ c.args.n refl
+invariant_of-self c = IsProcesses-grown c.self.inside.instructions c.self.inside.rows.map c.self.invariant c.args.p.0 c.row_mut-row.result.now c.row_mut-row.ensures.value _ c.args.n refl
