@@ -12,7 +12,7 @@ use Rattle.lwk_tables.specs.Frames.{frames_map}
 use Rattle.lwk_tables.specs.Lacks.{OthersStay, memory}
 use Rattle.lwk_tables.specs.Rows.{FramesIn}
 use Rattle.lwk_views.proofs.Reading.{may_any}
-use Rattle.lwk_views.specs.Views.{Did, Stepped, seen, tried}
+use Rattle.lwk_views.specs.Views.{Did, DidAlone, Stepped, seen, tried}
 use Rattle.mck_word.specs.Maps.{Map}
 use Rattle.mck_word.specs.declared.Access.TheVariants.{Write}
 use Rattle.std.proofs.Common.{ap, refl, sym, ◌∙◌}
@@ -88,3 +88,11 @@ module _ (rows : Map Row) (pages : List (List ℕ)) where
     frames = λ files. h.frames files ∙ ap (λ (v : View). written_back rows (stored_all v.stores (memory rows pages)) (frames_map pages)) (sym (e files));
     count = h.count;
   }
+
+-- a step that touches no memory
+pub did_alone : (before after : Node) (f : KernelNode → KernelNode) → Stepped before after f → DidAlone before after (on_node f)
+did_alone before after f h = λ rows pages inside. did_on_node rows pages before after f inside h
+
+pub did_alone_as : (before after : Node) (word other : View → View) → ((rows : Map Row) (pages : List (List ℕ)) (files : Files) → other (seen rows before pages files) ≡ word (seen rows before pages files))
+    → DidAlone before after word → DidAlone before after other
+did_alone_as before after word other e h = λ rows pages inside. did_as rows pages before after pages word other (e rows pages) (h rows pages inside)

@@ -9,6 +9,7 @@ use Rattle.lwk_node.specs.Shown.{node_of}
 use Rattle.lwk_node.specs.declared.tables.Node.{Node}
 use Rattle.lwk_tables.specs.Frames.{frames_map}
 use Rattle.lwk_tables.specs.Lacks.{memory}
+use Rattle.lwk_tables.specs.Rows.{FramesIn}
 use Rattle.mck_word.specs.Maps.{Map}
 use Rattle.mck_word.specs.declared.Access.TheVariants.{Read, Write}
 use Rattle.std.specs.Prelude.{List, cond, length, ℕ, ◌≡◌}
@@ -35,3 +36,7 @@ pub record Did (rows : Map Row) (before : Node) (pages : List (List ℕ)) (after
 -- A node is stepped by a word of the definitions on nodes.
 abbrev pub Stepped : Node → Node → (KernelNode → KernelNode) → Type 0
 Stepped before after f = (files : Files) → node_of after files ≡ f (node_of before files)
+
+-- a step that touches no memory, whatever the table and the frames are
+abbrev pub DidAlone : Node → Node → (View → View) → Type 0
+DidAlone before after word = (rows : Map Row) (pages : List (List ℕ)) → FramesIn rows pages → Did rows before pages after pages word
