@@ -28,11 +28,10 @@ ghost use Rattle.std.specs.Prelude.{◌≡◌, ◌≤◌, ◌<◌, ◌+◌, ◌^
 
 use bytes::row_at;
 use changes::{add_pages, drop_pages, protect_pages};
-pub use laws::stores_are_written_back;
-
 use frame_mem::FrameMem;
 use frame_pool::FramePool;
 use isa_model::Lack;
+pub use laws::stores_are_written_back;
 use mck_flags::Rights;
 use mck_word::{Access, Frame, NoMemory, PageRange};
 use page_map::PageTable;
@@ -168,6 +167,14 @@ impl<T: PageTable> Space<T> {
         ensures keeps { (rs : List range) → T.has_room self.old.table rs → T.has_room self.new.table rs }
     {
         protect_pages(&mut self.table, r, rights);
+    }
+
+    /// Whether so many bytes from an address on lie on pages that are present and have the right.
+    pub fn may_access(&self, a: Access, address: u64, len: u64) -> bool
+        requires { len < 2 ^ 63 }
+        ensures { (pages : List (List ℕ)) → result ≡ may_access (memory (T.rows self.now.table) pages) a address len }
+    {
+        bytes::may_access(&self.table, a, address, len)
     }
 
     /// Reads bytes, or names the first page that is absent or lacks the read right, and reads nothing then.
