@@ -1,1 +1,2 @@
 pub mod RangeLists
+pub mod StreamLens

@@ -1,3 +1,4 @@
 pub mod Planned
 pub mod Ranges
 pub mod Stages
+pub mod StreamBytes

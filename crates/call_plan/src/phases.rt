@@ -1,9 +1,11 @@
 // The phases that a delegated call has left.
-ghost use Rattle.std.specs.Prelude.{◌≡◌, ◌<◌, ◌==◌, ◌+◌, ◌^◌, ◌∷◌, [], List, ℕ, IfSome, IsTrue, MatchOption, false, is_some, true, not, length, slice_get, get_or};
+ghost use Rattle.std.specs.Prelude.{◌≡◌, ◌≤◌, ◌<◌, ◌==◌, ◌+◌, ◌^◌, ◌∷◌, [], List, ℕ, IfSome, Some, IsTrue, MatchOption, false, is_some, true, not, length, slice_get, get_or};
 ghost use Rattle.std.specs.List.{list_all, list_any};
 ghost use Rattle.call_plan.specs.Ranges.{is_full, is_too_long};
 ghost use Rattle.call_plan.specs.Stages.{kind_of, moved_past, stage_phases, vector_stream};
-ghost use Rattle.kernel_model.specs.Plans.{Act};
+ghost use Rattle.call_plan.specs.StreamBytes.{most_left, total_len};
+ghost use Rattle.call_plan.specs.declared.phases.Kind.{Kind as kind};
+ghost use Rattle.kernel_model.specs.Plans.{Act, most_moved};
 ghost use Rattle.kernel_model.specs.Progress.{advanced, drop_used_up, ranges_of, vectors, with_scatter, without_empty};
 ghost use Rattle.mck_word.specs.Lists.{tail};
 
@@ -79,7 +81,8 @@ impl Phases {
 
     /// A stream over the ranges of the vectors in the bytes, cut to 65,536 bytes in all; none where a length is above 2^63 - 1.
     pub fn over_vectors(bytes: &[u8]) -> Option<Phases>
-        ensures { MatchOption result (list_any is_too_long (vectors 16 bytes.now) ≡ true) (λ p. (list_any is_too_long (vectors 16 bytes.now) ≡ false) × (p ≡ vector_stream bytes.now)) }
+        ensures is { MatchOption result (list_any is_too_long (vectors 16 bytes.now) ≡ true) (λ p. (list_any is_too_long (vectors 16 bytes.now) ≡ false) × (p ≡ vector_stream bytes.now)) }
+        ensures few { IfSome result (λ p. most_left p ≤ most_moved) }
     {
         let mut ranges = ArrayVec::new();
         if add_vectors(16, bytes, MOST_MOVED, &mut ranges) {
@@ -119,7 +122,8 @@ impl Phases {
 
     /// Goes on to the next phase.
     pub fn pass(&mut self)
-        ensures { self.new ≡ tail self.old }
+        ensures is { self.new ≡ tail self.old }
+        ensures few { most_left self.new ≤ most_left self.old }
     {
         match self.stages {
             Stages::GatherAct => self.stages = Stages::Act,
@@ -137,7 +141,8 @@ impl Phases {
 
     /// Passes over phases without a byte left.
     pub fn settle(&mut self)
-        ensures { self.new ≡ drop_used_up self.old }
+        ensures is { self.new ≡ drop_used_up self.old }
+        ensures few { most_left self.new ≤ most_left self.old }
     {
         match self.stages {
             Stages::GatherAct if first_full(&self.ranges).is_none() => self.stages = Stages::Act,
@@ -161,7 +166,9 @@ impl Phases {
     /// Goes on behind `n` bytes of the first phase's first range.
     pub fn advance(&mut self, n: u64)
         requires { IfSome (slice_get (without_empty (ranges_of (get_or self.old 0 Act))) 0) (λ r. r.address + n < 2 ^ 64) }
-        ensures { self.new ≡ moved_past n self.old }
+        ensures is { self.new ≡ moved_past n self.old }
+        ensures few { most_left self.new ≤ most_left self.old }
+        ensures fewer { IfSome (slice_get (without_empty (ranges_of (get_or self.old 0 Act))) 0) (λ r. kind_of self.old ≡ Some kind.Stream → n ≤ r.len → most_left self.new + n ≤ most_left self.old) }
     {
         match self.stages {
             Stages::GatherAct | Stages::GatherStream | Stages::Scatter | Stages::Stream =>
@@ -172,7 +179,8 @@ impl Phases {
 
     /// Leaves `len` bytes of a scatter, which is the first phase.
     pub fn cut_scatter(&mut self, len: u64)
-        ensures { (out : List ℕ) → length out ≡ len → self.new ≡ with_scatter out self.old }
+        ensures is { (out : List ℕ) → length out ≡ len → self.new ≡ with_scatter out self.old }
+        ensures few { most_left self.new ≤ most_left self.old }
     {
         if self.stages != Stages::Scatter {
             return;
@@ -218,6 +226,8 @@ fn advance_first(ranges: &mut ArrayVec<Range, 16>, n: u64)
     requires fits { IfSome (slice_get (without_empty ranges.old.items) 0) (λ r. r.address + n < 2 ^ 64) }
     ensures full { 1 < length ranges.new.items → IsTrue (list_all is_full ranges.new.items) }
     ensures items { ranges.new.items ≡ advanced n (without_empty ranges.old.items) }
+    ensures few { total_len ranges.new.items ≤ total_len ranges.old.items }
+    ensures fewer { IfSome (slice_get (without_empty ranges.old.items) 0) (λ r. n ≤ r.len → total_len ranges.new.items + n ≤ total_len ranges.old.items) }
 {
     let Some(first) = ranges.first().copied() else {
         return;

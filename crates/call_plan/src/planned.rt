@@ -1,8 +1,9 @@
 // The plan of a call.
-ghost use Rattle.std.specs.Prelude.{◌≡◌, ◌*◌, ◌==◌, min};
-ghost use Rattle.call_plan.specs.Planned.{planned};
+ghost use Rattle.std.specs.Prelude.{◌≡◌, ◌≤◌, ◌*◌, ◌==◌, min};
+ghost use Rattle.call_plan.specs.Planned.{MovesFew, planned};
+ghost use Rattle.call_plan.specs.StreamBytes.{most_left};
 ghost use Rattle.kernel_model.specs.Plans as plans;
-ghost use Rattle.kernel_model.specs.Plans.{delegated_calls, local_calls, memory_calls, phases_of};
+ghost use Rattle.kernel_model.specs.Plans.{delegated_calls, local_calls, memory_calls, most_moved, phases_of};
 ghost use Rattle.mck_word.specs.Lists.{member};
 
 use crate::arguments::int;
@@ -51,7 +52,8 @@ fn is_memory(number: u64) -> bool
 
 /// The phases of a delegated call.
 fn phases_of(number: u64, arguments: &[u64; 6]) -> Phases
-    ensures { result ≡ phases_of number arguments.now }
+    ensures is { result ≡ phases_of number arguments.now }
+    ensures few { most_left result ≤ most_moved }
 {
     match number {
         OPENAT | MKDIRAT | UNLINKAT => Phases::with_range(
@@ -82,7 +84,8 @@ fn phases_of(number: u64, arguments: &[u64; 6]) -> Phases
 
 /// How a system call with these arguments is served.
 pub fn plan(number: u64, arguments: &[u64; 6]) -> Plan
-    ensures { planned result ≡ plans.plan number arguments.now }
+    ensures is { planned result ≡ plans.plan number arguments.now }
+    ensures few { MovesFew result }
 {
     if is_local(number) {
         return Plan::Local;

@@ -1,4 +1,5 @@
 pub mod ActSteps
 pub mod Buffers
+pub mod PageBytes
 pub mod PhaseCases
 pub mod VectorSteps

@@ -7,7 +7,7 @@ use Rattle.kernel_model.specs.Plans.{Phase}
 use Rattle.kernel_model.specs.declared.ranges.Range.{Range}
 use Rattle.kernel_model.specs.Progress.{Progress, ends, gather_vectors, settle, vectors}
 use Rattle.mck_word.specs.Words.{refused}
-use Rattle.std.proofs.Common.{◌≡◌, ℕ, suc, Bool, true, false, cond, List, [], ◌∷◌, length, sym, ap, ◌∙◌, arith}
+use Rattle.std.proofs.Common.{◌≡◌, ℕ, suc, true, false, cond, List, [], ◌∷◌, length, sym, ap, ◌∙◌, arith}
 use Rattle.std.proofs.lemmas.Bool.Decides.{nat_tests}
 use Rattle.std.specs.List.{list_any}
 use Rattle.std.specs.Prelude.{◌==◌}

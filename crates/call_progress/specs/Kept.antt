@@ -1,16 +1,23 @@
 -- What a contract sees of a call's progress.
+use Rattle.call_plan.specs.StreamBytes.{most_left}
 use Rattle.file_model.specs.Files.{Files}
 use Rattle.file_model.specs.Operations.{FileResult}
 use Rattle.file_model.specs.declared.operations.FileOp.{FileOp}
 use Rattle.file_model.specs.declared.operations.FileOp.TheVariants.{Pipe2, Fstat, Getdents, Get, Put, Leave}
+use Rattle.kernel_model.specs.Plans.{Phase, most_moved}
 use Rattle.kernel_model.specs.Progress.{After, Moved, Progress}
-use Rattle.std.specs.Prelude.{◌≡◌, ◌≤ℤ◌, pos, ℕ, ℤ, List, Option, length, min}
+use Rattle.std.specs.Prelude.{◌≡◌, ◌≤◌, ◌+◌, ◌≤ℤ◌, pos, ℕ, ℤ, List, Option, length, min}
 
 -- the progress, how many bytes its buffer can take without memory, and the bytes that an act can give out into
 pub record Kept : Type 0 where
   pub progress : Progress
   pub spare : ℕ
   pub out : List ℕ
+
+-- the front of the buffer is within it, and the bytes moved and still to be moved are no more than a call may move
+pub record IsWithin (from len moved : ℕ) (phases : List Phase) : Type 0 where
+  pub front : from ≤ len
+  pub bytes : moved + most_left phases ≤ most_moved
 
 -- what a step leaves, with the answer where the call has ended
 abbrev pub after : Progress → Option ℤ → Files → After

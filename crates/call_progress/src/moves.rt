@@ -34,7 +34,7 @@ impl Progress {
     }
 
     /// Scatters the next piece into its page.
-    pub fn scatter<S: FileStore>(&mut self, files: &mut S, page: &mut [u8]) -> Option<i64>
+    pub(crate) fn scatter<S: FileStore>(&mut self, files: &mut S, page: &mut [u8]) -> Option<i64>
         requires kind { kind_of self.old.progress.phases ≡ Some kind.Scatter }
         requires page { length page.old ≡ 4096 }
         requires low { (next_piece self.old.progress).page < 2 ^ 51 }

@@ -1,9 +1,11 @@
 // The pieces of a call, between the bytes of a page and its buffer or a file.
 ghost use Rattle.std.specs.Prelude.{◌≡◌, ◌≤◌, ◌<◌, ◌+◌, ◌-◌, ◌^◌, ◌++◌, IfSome, Some, [], length, slice_get, take, drop, vec_len};
 ghost use Rattle.call_plan.specs.Stages.{kind_of};
+ghost use Rattle.call_plan.specs.StreamBytes.{most_left};
 ghost use Rattle.call_plan.specs.declared.phases.Kind.{Kind as kind};
 ghost use Rattle.std.specs.Vec.{vec_capacity};
 ghost use Rattle.call_progress.specs.Kept.{after};
+ghost use Rattle.kernel_model.specs.Plans.{most_moved};
 ghost use Rattle.kernel_model.specs.Progress.{advanced, gather_path, gather_vectors, gathered, next_piece, ranges_left, settle, stays};
 ghost use Rattle.mck_word.specs.Lists.{before_zero, spliced, tail};
 
@@ -21,7 +23,7 @@ fn append(v: &mut Vec<u8>, bytes: &[u8])
 }
 
 /// Puts bytes into a page at an offset.
-pub fn put_at(page: &mut [u8], offset: u32, bytes: &[u8])
+pub(crate) fn put_at(page: &mut [u8], offset: u32, bytes: &[u8])
     requires { offset + length bytes.now ≤ length page.old }
     ensures { page.new ≡ spliced page.old offset bytes.now }
 {
@@ -56,6 +58,7 @@ impl Progress {
 
     /// Goes on with a stream over vectors.
     fn take_vectors<S: FileStore>(&mut self, files: &mut S, phases: Phases) -> Option<i64>
+        requires { self.old.progress.moved + most_left phases ≤ most_moved }
         ensures { after self.new.progress result (S.files files.new) ≡ settle (record self.old.progress { buffer = []; phases = phases }) (S.files files.old) }
     {
         self.phases = phases;
@@ -83,6 +86,7 @@ impl Progress {
     }
 
     /// Goes on after a piece of the vectors of `n` bytes.
+    #[tactic(auto, using(crate::proofs::PhaseCases::gathering))]
     fn gather_vectors<S: FileStore>(&mut self, files: &mut S, n: u64) -> Option<i64>
         requires kind { kind_of self.old.progress.phases ≡ Some kind.Gather }
         requires fits { IfSome (slice_get (ranges_left self.old.progress) 0) (λ r. r.address + n < 2 ^ 64) }
@@ -99,7 +103,7 @@ impl Progress {
     }
 
     /// Gathers the next piece from the bytes of its page.
-    pub fn gather<S: FileStore>(&mut self, files: &mut S, page: &[u8]) -> Option<i64>
+    pub(crate) fn gather<S: FileStore>(&mut self, files: &mut S, page: &[u8]) -> Option<i64>
         requires kind { kind_of self.old.progress.phases ≡ Some kind.Gather }
         requires page { length page.now ≡ 4096 }
         requires low { (next_piece self.old.progress).page < 2 ^ 51 }

@@ -1,11 +1,15 @@
 // The progress of a call.
-ghost use Rattle.std.specs.Prelude.{◌≡◌};
+ghost use Rattle.std.specs.Prelude.{◌≡◌, ◌≤◌};
+ghost use Rattle.call_plan.specs.Planned.{MovesFew, phases_in, planned};
+ghost use Rattle.call_plan.specs.StreamBytes.{most_left};
+ghost use Rattle.kernel_model.specs.Plans as plans;
+ghost use Rattle.kernel_model.specs.Plans.{most_moved};
 ghost use Rattle.kernel_model.specs.Progress as calls;
 ghost use Rattle.kernel_model.specs.Progress.{given_back, interrupted_answer, needed_access, offset_argument, starting, stream_operation};
 ghost use Rattle.kernel_model.specs.Pages.{first_piece};
 
 use call_plan::numbers::{PREAD64, PWRITE64, is_read};
-use call_plan::{Kind, Phases, Range};
+use call_plan::{Kind, Phases, Plan, Range, Stages, plan};
 use file_calls::steps::ready;
 use file_calls::store::FileStore;
 use file_model::{FileOp, Readiness};
@@ -29,9 +33,9 @@ pub struct Progress {
 }
 
 impl Model for Progress {
-    ghost use Rattle.std.specs.Prelude.{◌≤◌, ◌-◌, drop, vec_len};
+    ghost use Rattle.std.specs.Prelude.{◌-◌, drop, vec_len};
     ghost use Rattle.std.specs.Vec.{vec_capacity};
-    ghost use Rattle.call_progress.specs.Kept.{Kept};
+    ghost use Rattle.call_progress.specs.Kept.{IsWithin, Kept};
 
     ghost Value = { Kept };
 
@@ -41,7 +45,19 @@ impl Model for Progress {
       out = p.out.items;
     } };
 
-    ghost invariant = { λ p. p.from ≤ vec_len p.buffer };
+    ghost invariant = { λ p. IsWithin p.from (vec_len p.buffer) p.moved p.phases };
+}
+
+/// The phases of a plan.
+fn phases_of(plan: Plan) -> Phases
+    requires { MovesFew plan }
+    ensures is { result ≡ phases_in (planned plan) }
+    ensures few { most_left result ≤ most_moved }
+{
+    match plan {
+        Plan::Delegated(phases) => phases,
+        _ => Phases::without_ranges(Stages::Over),
+    }
 }
 
 /// The first piece of a range.
@@ -57,8 +73,17 @@ fn piece_of(range: Range) -> Piece
 }
 
 impl Progress {
-    /// The beginning of a call, with all its phases.
+    /// The beginning of a call, with the phases of its plan; a call that is not delegated has none. Takes no memory.
+    pub fn of_call(alloc: Global, number: u64, arguments: &[u64; 6]) -> Progress
+        ensures { result.progress ≡ starting number arguments.now (phases_in (plans.plan number arguments.now)) }
+    {
+        Progress::starting(alloc, number, arguments, phases_of(plan(number, arguments)))
+    }
+
+    /// The beginning of a call, with all its phases, whose streams have no more bytes than a call may move: so a plan says of its
+    /// phases. Takes no memory.
     pub fn starting(alloc: Global, number: u64, arguments: &[u64; 6], phases: Phases) -> Progress
+        requires { most_left phases ≤ most_moved }
         ensures { result.progress ≡ starting number arguments.now phases }
     {
         Progress {

@@ -1,7 +1,7 @@
-use Rattle.std.proofs.Common.{List, ℕ, ◌∷◌, drop, take, sym, ap, ◌∙◌}
-use Rattle.call_progress.specs.Kept.{Kept, moved}
+use Rattle.std.proofs.Common.{List, ◌∷◌, drop, take, ap, ◌∙◌}
+use Rattle.call_progress.specs.Kept.{moved}
 use Rattle.kernel_model.specs.Plans.{Phase, Scatter}
-use Rattle.kernel_model.specs.Progress.{advanced, next_piece, ranges_left, settle}
+use Rattle.kernel_model.specs.Progress.{advanced, ranges_left, settle}
 use Rattle.mck_word.specs.Lists.{spliced, tail}
 use Rattle.mck_word.specs.declared.parts.Piece.{Piece}
 use Rattle.call_progress.proofs.PhaseCases.{scatter-past}
