@@ -233,16 +233,6 @@ impl Node {
         }
     }
 
-    /// The thread's place in its process.
-    pub fn place(&self, t: Tid) -> u32
-        ensures { (files : Files) → result ≡ (thread_of (node_of self.now files) t.0).place }
-    {
-        match self.threads.thread(t) {
-            Some(x) => x.place,
-            None => 0,
-        }
-    }
-
     /// The thread's mask.
     pub fn mask(&self, t: Tid) -> SigSet
         ensures { (files : Files) → result.0 ≡ (thread_of (node_of self.now files) t.0).mask }

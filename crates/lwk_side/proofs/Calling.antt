@@ -7,7 +7,7 @@ use Rattle.hybrid_laws.specs.Written.{each-entry}
 use Rattle.lwk_threads.proofs.Showing.{entries-each, pair_of}
 use Rattle.mck_word.specs.Maps.{Map, at, each, entries}
 use Rattle.std.proofs.Common.{arith, ap, refl, ◌∙◌, ◌≡◌}
-use Rattle.std.specs.Prelude.{IsSome, Bool, List, None, Option, Some, [], cond, false, find, map, option_map, true, ℕ, ◌==◌, ◌∷◌}
+use Rattle.std.specs.Prelude.{is_some, unwrap_or, IsSome, Bool, List, None, Option, Some, [], cond, false, find, map, option_map, true, ℕ, ◌==◌, ◌∷◌}
 
 find-shown : (q : ℕ) (es : List (ℕ × Caller)) → option_map (λ e. e.0) (find (λ e. e.1.request == q) (map (pair_of shown_caller) es)) ≡ option_map (λ e. e.0) (find (λ e. e.1.request.0 == q) es)
 find-shown q [] = refl
@@ -26,3 +26,8 @@ found-there test m y e = (found-some test (λ (x : ℕ × Caller). at m x.0 ≡ 
 pub is-some : (o : Option Caller) (c : Caller) → o ≡ Some c → IsSome o
 is-some None c e = absurd (grind (arith, e))
 is-some (Some x) c e = refl
+
+-- what is there is what is looked up
+pub there : {V : Type 0} (o : Option V) (d : V) → is_some o ≡ true → o ≡ Some (unwrap_or o d)
+there None d e = absurd (grind (arith, e))
+there (Some v) d e = refl

@@ -10,6 +10,7 @@ mod interrupts;
 mod kernel;
 mod replies;
 mod rounds;
+mod runs;
 mod task;
 
 pub use answers::{answer_to, may_answer};
