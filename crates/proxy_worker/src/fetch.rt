@@ -1,17 +1,13 @@
 // The messages that a proxy takes from the rings.
-ghost use Rattle.std.specs.Prelude.{◌≡◌, ◌<◌, ◌+◌, ◌-◌, ◌^◌, Option, Some, false, nat_lt, not};
+ghost use Rattle.std.specs.Prelude.{◌≡◌, ◌<◌, ◌-◌, ◌^◌, Option, false};
 ghost use Rattle.clear_rounds.specs.Round.{phase_of};
 ghost use Rattle.clear_rounds.specs.declared.Phase.{Phase as phase};
 ghost use Rattle.hybrid_model.specs.Linux as events;
 ghost use Rattle.hybrid_model.specs.Linux.{fetch_message, fetched_as, is_ended_or_replied};
 ghost use Rattle.hybrid_model.specs.Sides as sides;
 ghost use Rattle.hybrid_model.specs.Sides.{state_of};
-ghost use Rattle.kernel_model.specs.Progress.{fault_answer};
-ghost use Rattle.mck_word.specs.Maps.{keep};
-ghost use Rattle.mck_word.specs.Pages.{in_range};
 ghost use Rattle.proxy_worker.specs.Fits.{AnswerFits, FetchFits, HasService};
 ghost use Rattle.proxy_worker.specs.Shown.{HasMirrorRoom, HasServiceRoom, linux_of};
-ghost use Rattle.request_book.specs.Requests.{queued};
 ghost use Rattle.request_book.specs.declared.ReqState.{ReqState as states};
 
 use crate::proxy::Proxy;
@@ -36,8 +32,7 @@ impl Proxy {
     fn fetch_request(&mut self, alloc: Global, call: &Call, book: &mut Book)
         requires posted { state_of book.old.requests call.now.q.0 ≡ states.Posted }
         requires room { HasServiceRoom self.old }
-        ensures linux { linux_of self.new ≡ sides.with_service (linux_of self.old) call.now.q.0 (events.new_service call.now) }
-        ensures book { book.new.requests ≡ queued call.now.q.0 book.old.requests }
+        ensures { (round : Option sides.Round) → fetched_as (linux_of self.new) book.new.requests round ≡ events.fetch_request call.now (linux_of self.old) book.old.requests round }
     {
         let progress = Progress::of_call(alloc, call.number, &call.args);
         self.services.put(
@@ -53,6 +48,7 @@ impl Proxy {
     }
 
     /// A row for a worker: it is installed, unless a later Clear has overtaken it, and the worker goes on.
+    #[tactic(auto, unfolding(hybrid_model::specs::Linux::fetch_row))]
     fn fetch_row(
         &mut self,
         worker: u32,
@@ -63,8 +59,7 @@ impl Proxy {
     )
         requires faulted { state_of book.old.requests (sides.serves (linux_of self.old) worker) ≡ states.Faulted }
         requires room { HasMirrorRoom self.old }
-        ensures linux { linux_of self.new ≡ record (linux_of self.old) { mirror = events.installed (nat_lt number (linux_of self.old).cleared) (linux_of self.old).mirror page row } }
-        ensures book { book.new.requests ≡ sides.with_state book.old.requests (sides.serves (linux_of self.old) worker) states.Held }
+        ensures { (round : Option sides.Round) → fetched_as (linux_of self.new) book.new.requests round ≡ events.fetch_row worker page number row (linux_of self.old) book.old.requests round }
     {
         book.answered(self.serves(worker));
         if number >= self.cleared {
@@ -73,11 +68,11 @@ impl Proxy {
     }
 
     /// Nothing for a worker: its call ends with the bytes moved, or with -EFAULT.
+    #[tactic(auto, unfolding(hybrid_model::specs::Linux::fetch_empty))]
     fn fetch_empty(&mut self, worker: u32, book: &mut Book)
         requires faulted { state_of book.old.requests (sides.serves (linux_of self.old) worker) ≡ states.Faulted }
         requires service { HasService self.old (sides.serves (linux_of self.old) worker) }
-        ensures linux { linux_of self.new ≡ sides.with_service (linux_of self.old) (sides.serves (linux_of self.old) worker) (record (sides.served (linux_of self.old) worker) { answer = fault_answer (sides.served (linux_of self.old) worker).progress }) }
-        ensures book { book.new.requests ≡ sides.with_state book.old.requests (sides.serves (linux_of self.old) worker) states.Ended }
+        ensures { (round : Option sides.Round) → fetched_as (linux_of self.new) book.new.requests round ≡ events.fetch_empty worker (linux_of self.old) book.old.requests round }
     {
         let q = self.serves(worker);
         book.ended(q);
@@ -86,11 +81,11 @@ impl Proxy {
     }
 
     /// A round closes the pages: their rows leave the mirror.
+    #[tactic(auto, unfolding(hybrid_model::specs::Linux::fetch_clear))]
     fn fetch_clear(&mut self, range: PageRange, round: &mut Round)
         requires posted { phase_of round.old ≡ Some phase.Posted }
         requires few { (linux_of self.old).cleared < 2 ^ 64 - 1 }
-        ensures linux { linux_of self.new ≡ record (linux_of self.old) { mirror = keep (linux_of self.old).mirror (λ page. not (in_range range page)); cleared = (linux_of self.old).cleared + 1 } }
-        ensures round { round.new ≡ sides.with_phase round.old phase.Taken }
+        ensures { (book : sides.Book) → fetched_as (linux_of self.new) book round.new ≡ events.fetch_clear range (linux_of self.old) book round.old }
     {
         self.mirror.drop_range(range);
         self.cleared += 1;
@@ -98,9 +93,10 @@ impl Proxy {
     }
 
     /// The thread of a request has a signal, which counts until the request has ended.
+    #[tactic(auto, unfolding(hybrid_model::specs::Linux::fetch_interrupt))]
     fn fetch_interrupt(&mut self, q: Req, book: &Book)
         requires { is_ended_or_replied (state_of book.now.requests q.0) ≡ false → HasService self.old q.0 }
-        ensures { linux_of self.new ≡ events.marked_for_linux (is_ended_or_replied (state_of book.now.requests q.0)) (linux_of self.old) q.0 }
+        ensures { (round : Option sides.Round) → fetched_as (linux_of self.new) book.now.requests round ≡ events.fetch_interrupt q.0 (linux_of self.old) book.now.requests round }
     {
         if !is_over(book.standing(q)) {
             self.set_interrupted(q);
@@ -108,7 +104,6 @@ impl Proxy {
     }
 
     /// An answer for a worker.
-    #[tactic(auto, unfolding(hybrid_model::specs::Linux::fetch_row, hybrid_model::specs::Linux::fetch_empty))]
     fn fetch_answer(
         &mut self,
         worker: u32,
@@ -127,7 +122,6 @@ impl Proxy {
     }
 
     /// Takes a message that came from a ring.
-    #[tactic(auto, unfolding(hybrid_model::specs::Linux::fetch_request, hybrid_model::specs::Linux::fetch_clear, hybrid_model::specs::Linux::fetch_interrupt))]
     pub fn fetch(&mut self, alloc: Global, m: &Msg, book: &mut Book, round: &mut Round)
         requires { FetchFits m.now self.old book.old.requests round.old }
         ensures { fetched_as (linux_of self.new) book.new.requests round.new ≡ fetch_message m.now (linux_of self.old) book.old.requests round.old }

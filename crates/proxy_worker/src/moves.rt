@@ -1,5 +1,5 @@
 // A worker takes a request, pins frames, and replies.
-ghost use Rattle.std.specs.Prelude.{◌≡◌, ◌<◌, IsTrue, false, true};
+ghost use Rattle.std.specs.Prelude.{◌≡◌, ◌<◌, false, true};
 ghost use Rattle.hybrid_model.specs.Linux as events;
 ghost use Rattle.hybrid_model.specs.Linux.{fault_of, may_ack_clear, may_assign, may_finish, reply_of};
 ghost use Rattle.hybrid_model.specs.Sides as sides;

@@ -1,5 +1,5 @@
 // Requests that have to wait, and the turns at the ends of pipes.
-ghost use Rattle.std.specs.Prelude.{◌≡◌, false, true};
+ghost use Rattle.std.specs.Prelude.{◌≡◌, true};
 ghost use Rattle.hybrid_model.specs.Linux as events;
 ghost use Rattle.hybrid_model.specs.Linux.{is_parked};
 ghost use Rattle.hybrid_model.specs.Sides as sides;

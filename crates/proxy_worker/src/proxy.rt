@@ -1,5 +1,5 @@
 // The proxy of a process.
-ghost use Rattle.std.specs.Prelude.{◌≡◌, ◌≤◌, OnOk};
+ghost use Rattle.std.specs.Prelude.{◌≡◌, OnOk};
 ghost use Rattle.hybrid_model.specs.Sides.{no_linux};
 ghost use Rattle.mck_word.specs.Maps.{no_rows};
 ghost use Rattle.proxy_worker.specs.Shown.{HasMirrorRoom, HasServiceRoom, linux_of};

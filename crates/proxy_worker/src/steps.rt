@@ -1,5 +1,5 @@
 // The steps of a worker's call that need no page.
-ghost use Rattle.std.specs.Prelude.{◌≡◌, None, Some, true};
+ghost use Rattle.std.specs.Prelude.{◌≡◌, Some, true};
 ghost use Rattle.call_progress.specs.Streams.{HasRoomForStep};
 ghost use Rattle.file_calls.specs.FileSteps.{FewCalls};
 ghost use Rattle.file_model.specs.declared.operations.Readiness.{Readiness as readiness};

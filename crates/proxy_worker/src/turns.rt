@@ -1,5 +1,5 @@
 // The turns at the ends of pipes.
-ghost use Rattle.std.specs.Prelude.{◌≡◌, ◌≤◌, IsSome, OnOk, option_map};
+ghost use Rattle.std.specs.Prelude.{◌≡◌, IsSome, OnOk, option_map};
 ghost use Rattle.hybrid_model.specs.Linux as events;
 ghost use Rattle.hybrid_model.specs.Linux.{is_turn_for, with_turn, without_turn};
 ghost use Rattle.mck_word.specs.Maps.{at, cut, no_rows};
