@@ -1,0 +1,10 @@
+pub mod Each
+pub mod Silence
+pub mod OffersMay
+pub mod NoOffer
+pub mod AnOffer
+pub mod Rows
+pub mod Sizes
+pub mod Small
+pub mod Walking
+pub mod Over
