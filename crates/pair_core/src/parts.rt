@@ -1,5 +1,5 @@
 // The parts of the two kernels.
-use file_calls::FileStore;
+use file_calls::store::FileStore;
 use ikc_channel::Channel;
 use key_rows::Rows;
 use lwk_side::{Lwk, Task};
