@@ -11,9 +11,10 @@ use Rattle.kernel_model.specs.Pages.{zero_page}
 use Rattle.mck_word.specs.Slots.{at-slots}
 use Rattle.mck_word.specs.Maps.{Map, at}
 use Rattle.mck_word.specs.declared.Access.{Access}
-use Rattle.std.proofs.Common.{ap, arith, drop, refl, sym, take, ◌∙◌}
+use Rattle.std.proofs.Common.{ap, arith, drop, inl, inr, refl, sym, take, ◌∙◌}
+use Rattle.std.proofs.lemmas.Bool.{cases_eq}
 use Rattle.std.proofs.lemmas.List.{drop_more}
-use Rattle.std.specs.Prelude.{Bool, IsSome, if◌then◌else◌, is_none, List, None, Option, Some, [], ◌∷◌, ◌++◌, false, length, map, unwrap_or, not, option_map, slice_index, slice_index_or, suc, true, zero, ℕ, ◌%◌, ◌*◌, ◌+◌, ◌/◌, ◌<◌, ◌≡◌, ◌≤◌}
+use Rattle.std.specs.Prelude.{Bool, IsSome, if◌then◌else◌, is_none, List, None, Option, Some, [], ◌∷◌, ◌++◌, false, length, map, unwrap_or, not, option_map, slice_index, slice_index_or, suc, true, zero, ℕ, ◌%◌, ◌&&◌, ◌*◌, ◌+◌, ◌/◌, ◌<◌, ◌≡◌, ◌≤◌}
 
 read-suc : (m : Memory) (a n : ℕ) → read_bytes m a (suc n) ≡ byte_at m a ∷ read_bytes m (a + 1) n
 read-suc m a n = refl
@@ -112,3 +113,20 @@ read-piece rows pages page off n w there inside fits long =
 pub length-read : (m : Memory) (a n : ℕ) → length (read_bytes m a n) ≡ n
 length-read m a zero = refl
 length-read m a (suc n) = ap length (read-suc m a n) ∙ (let rest = length-read m (a + 1) n in omega arith)
+
+-- a range of which some page lacks the right may not be accessed
+may-not : (m : Memory) (a : Access) (address n page : ℕ) → 1 ≤ n → address / 4096 ≤ page → page * 4096 < address + n → lacks m a page ≡ true → may_access m a address n ≡ false
+may-not m a address zero page some from to lacking = absurd (omega arith)
+may-not m a address (suc n) page some from to lacking = elim (cases_eq page (address / 4096)) [
+  | inl here ↦ ap (λ b. not b && may_access m a (address + 1) n) (ap (lacks m a) (sym here) ∙ lacking)
+  | inr other ↦
+      ap (λ b. not (lacks m a (address / 4096)) && b) (may-not m a (address + 1) n page (omega arith) (omega arith) (omega arith) lacking)
+      ∙ and-false (not (lacks m a (address / 4096)))
+]
+  where
+    and-false : (b : Bool) → (b && false) ≡ false
+    and-false true = refl
+    and-false false = refl
+
+pub not-allowed : (m : Memory) (a : Access) (address n : ℕ) (l : Lack) → IsFirstLack m a address n l → may_access m a address n ≡ false
+not-allowed m a address n l h = may-not m a address n l.page h.some h.from h.to h.lacking

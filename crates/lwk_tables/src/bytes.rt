@@ -63,6 +63,17 @@ fn check<T: PageTable>(table: &T, a: Access, address: u64, len: u64) -> Result<(
     }
 }
 
+/// Whether each page that so many bytes from an address on touch is present and has the right.
+pub fn may_access<T: PageTable>(table: &T, a: Access, address: u64, len: u64) -> bool
+    requires { len < 2 ^ 63 }
+    ensures { (pages : List (List ℕ)) → result ≡ may_access (memory (T.rows table.now) pages) a address len }
+{
+    match check(table, a, address, len) {
+        Ok(()) => true,
+        Err(_) => false,
+    }
+}
+
 /// Reads bytes of one page.
 fn read_piece<T: PageTable>(table: &T, mem: &FrameMem, page: u64, off: u32, into: &mut [u8])
     requires there { IsSome (looked_up (at (T.rows table.now) page) Read) }

@@ -200,6 +200,14 @@ impl<T: PageTable> Space<T> {
         protect_pages(&mut self.table, r, rights);
     }
 
+    /// Whether so many bytes from an address on lie on pages that are present and have the right.
+    pub fn may_access(&self, a: Access, address: u64, len: u64) -> bool
+        requires { len < 2 ^ 63 }
+        ensures { (pages : List (List ℕ)) → result ≡ may_access (memory (T.rows self.now.table) pages) a address len }
+    {
+        bytes::may_access(&self.table, a, address, len)
+    }
+
     /// Reads bytes, or names the first page that is absent or lacks the read right, and reads nothing then.
     pub fn read(&self, mem: &FrameMem, address: u64, into: &mut [u8]) -> Result<(), Lack>
         requires { FramesIn (T.rows self.now.table) mem.now }

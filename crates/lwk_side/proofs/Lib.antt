@@ -1,0 +1,3 @@
+mod Slotted
+mod Calling
+mod Marking

@@ -1,0 +1,13 @@
+-- What the events need of a table's rows and the frames.
+use Rattle.hybrid_model.specs.Sides.{Row}
+use Rattle.lwk_side.specs.declared.kernel.Lwk.{Lwk}
+use Rattle.lwk_tables.specs.Rows.{FramesApart, FramesIn, FramesTaken}
+use Rattle.mck_word.specs.Maps.{Map}
+use Rattle.std.specs.Prelude.{length, ◌≡◌}
+
+-- the rows' frames are taken ones of the node, each in one row
+pub record IsSound (lwk : Lwk) (rows : Map Row) : Type 0 where
+  pub inside : FramesIn rows lwk.frames
+  pub apart : FramesApart rows
+  pub taken : FramesTaken rows lwk.pool
+  pub frames : lwk.pool.frames ≡ length lwk.frames

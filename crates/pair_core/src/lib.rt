@@ -1,0 +1,10 @@
+//! The two kernels of a node.
+//!
+//! Promises: the parts show a state of the definitions (specs/Shown, `pair_of`); each event is the definition's event on it, where it may happen in a
+//! state that the two kernels reach (specs/Ready). What takes memory has its room made before.
+#![tactic(auto)]
+
+mod parts;
+mod pins;
+
+pub use parts::{Parts, Side};
