@@ -7,3 +7,6 @@ pub mod Twice
 pub mod RowsPassed
 pub mod Collected
 pub mod Living
+pub mod Made
+pub mod Forked
+pub mod Counted

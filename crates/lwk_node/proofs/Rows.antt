@@ -95,3 +95,7 @@ module _ (n : Node) (files : Files) where
   pub sleepers_are : (q : Queue) (f : List Sleeper → List Sleeper) → q.list ≡ f n.sleepers.list → node_of (record n { sleepers = q }) files ≡ record (node_of n files) { sleepers = f (node_of n files).sleepers }
   unfolding node_of
   sleepers_are q f e = ap (λ (xs : List Sleeper). record (node_of n files) { sleepers = xs }) e
+
+  pub sleepers_shown : (node_of n files).sleepers ≡ n.sleepers.list
+  unfolding node_of
+  sleepers_shown = refl

@@ -17,6 +17,9 @@ module _ {V : Type 0} where
   at_put : (m : Map V) (k : ℕ) (v : V) → at (put m k v) k ≡ Some v
   at_put m k v = at-put m k v k ∙ (let e : (k == k) ≡ true = grind (arith, nat_tests) in ap (λ b. cond b (Some v) (at m k)) e)
 
+  pub change_put : (m : Map V) (k : ℕ) (x : V) (f : V → V) → change (put m k x) k f ≡ put m k (f x)
+  change_put m k x f = ap (change_row (put m k x) k f) (at_put m k x) ∙ put_twice m k x (f x)
+
   pub change_twice : (m : Map V) (k : ℕ) (f g : V → V) → change (change m k f) k g ≡ change m k (λ x. g (f x))
   change_twice m k f g = go (at m k) refl
     where

@@ -5,7 +5,7 @@ use Rattle.kernel_model.specs.Nodes.{Node as KernelNode, Process as KernelProces
 use Rattle.kernel_model.specs.declared.Does.{Does}
 use Rattle.lwk_node.specs.declared.process_rows.Process.{Process}
 use Rattle.lwk_node.specs.declared.tables.Node.{Node}
-use Rattle.lwk_node.specs.declared.tables.ScriptLine.{ScriptLine}
+use Rattle.lwk_node.specs.declared.script_lines.ScriptLine.{ScriptLine}
 use Rattle.lwk_threads.specs.Shown.{shown_threads}
 use Rattle.mck_word.specs.Maps.{Map, each}
 use Rattle.std.specs.Prelude.{List, map, ℕ}

@@ -3,13 +3,13 @@ ghost use Rattle.std.specs.Prelude.{◌≡◌, ◌≤◌, length, Some};
 ghost use Rattle.file_model.specs.Files.{Files, close_all};
 ghost use Rattle.kernel_model.specs.LocalCalls.{code_of, dies_without_threads, note_first_code};
 ghost use Rattle.kernel_model.specs.Nodes.{Thread as KernelThread, change_process, dies, set_does, thread_of, threads_of};
-ghost use Rattle.kernel_model.specs.Traps.{life_ended, process_ended, tells_parent};
+ghost use Rattle.kernel_model.specs.Traps.{life_ended, process_ended, script_sent, tells_parent};
 ghost use Rattle.kernel_model.specs.declared.Does.TheVariants.{Ready};
 ghost use Rattle.mck_word.specs.declared.End.TheVariants.{Exit};
 ghost use Rattle.lwk_threads.specs.Threads.{live_threads};
 ghost use Rattle.lwk_node.specs.Room.{KeepsRoom};
 ghost use Rattle.lwk_node.specs.Shown.{node_of};
-ghost use Rattle.lwk_node.specs.Steps.{emptied};
+ghost use Rattle.lwk_node.specs.Steps.{emptied, without_line};
 
 use crate::passes;
 use crate::tables::Node;
@@ -110,5 +110,26 @@ impl Node {
         self.emptied(p);
         self.ended(p);
         self.tells_parent(parent);
+    }
+
+    /// The line of that index is sent.
+    fn drop_line(&mut self, k: u32)
+        ensures node { (files : Files) → node_of self.new files ≡ without_line k (node_of self.old files) }
+        ensures room { KeepsRoom self.old self.new }
+    {
+        self.unsent.retain(|x| x.index != k);
+    }
+
+    /// The line of that index generates its signal for its process, and is sent.
+    #[tactic(auto, unfolding(kernel_model::specs::Traps::script_sent))]
+    pub fn script_sent(&mut self, k: u32)
+        ensures node { (files : Files) → node_of self.new files ≡ script_sent k (node_of self.old files) }
+        ensures room { KeepsRoom self.old self.new }
+    {
+        if let Some(line) = self.line(k) {
+            let line = *line;
+            self.drop_line(k);
+            self.generate_for_process(line.process, line.signal);
+        }
     }
 }

@@ -7,13 +7,19 @@
 #![tactic(auto)]
 
 mod ends;
+mod forks;
+mod handlers;
+mod making;
 mod may;
 mod passes;
 pub mod process_rows;
+pub mod script_lines;
 mod signals;
 pub mod tables;
 mod thread_rows;
 mod threads;
+mod waits;
 
 pub use process_rows::{Process, Processes};
-pub use tables::{Node, ScriptLine};
+pub use script_lines::ScriptLine;
+pub use tables::Node;

@@ -9,7 +9,8 @@ ghost use Rattle.kernel_model.specs.Steps.{may_change, may_end, some_called};
 ghost use Rattle.kernel_model.specs.Traps.{line_of, may_be_called_back, may_be_marked, may_deliver, may_run, may_script, may_trap};
 ghost use Rattle.lwk_node.specs.Shown.{node_of, shown_line};
 
-use crate::tables::{Node, ScriptLine};
+use crate::script_lines::ScriptLine;
+use crate::tables::Node;
 use kernel_model::Does;
 use lwk_signals::choose;
 use lwk_threads::Thread;

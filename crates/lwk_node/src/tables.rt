@@ -3,28 +3,18 @@ ghost use Rattle.std.specs.Prelude.{◌≡◌, ◌≤◌, ◌<◌, ◌+◌, ◌-
 ghost use Rattle.file_model.specs.Files.{Files};
 ghost use Rattle.kernel_model.specs.CloneCalls.{parent_number};
 ghost use Rattle.kernel_model.specs.Nodes.{action_of, has_process, has_thread, instructions_in_all, is_dying, is_ended, is_living, is_there, process_of, thread_of};
-ghost use Rattle.mck_word.specs.Maps.{no_rows};
+ghost use Rattle.mck_word.specs.Maps.{count, no_rows};
 ghost use Rattle.lwk_node.specs.Shown.{node_of};
 ghost use Rattle.lwk_node.specs.Totals.{instructions_in};
 
 use crate::process_rows::Processes;
+use crate::script_lines::ScriptLine;
 use futex_queues::Sleepers;
 use kernel_model::{Action, Does, Life};
 use lwk_threads::ThreadTable;
 use mck_flags::SigSet;
 use mck_word::{End, NoMemory, Pid, Regs, Tid};
 use std::alloc::Global;
-
-/// An unsent line of the script: its index among the signal lines, its line in the job, and the signal that it sends once the
-/// process has executed so many instructions.
-#[derive(Clone, Copy, PartialEq, Eq, Debug)]
-pub struct ScriptLine {
-    pub index: u32,
-    pub line: u32,
-    pub process: Pid,
-    pub signal: u32,
-    pub after: u64,
-}
 
 /// The tables of a node.
 #[derive(Drop)]
@@ -58,6 +48,14 @@ impl Node {
         ensures { (files : Files) → result ≡ has_process (node_of self.now files) p.0 }
     {
         self.processes.process(p).is_some()
+    }
+
+    /// How many processes were made.
+    #[tactic(auto, using(crate::proofs::Counted::count_shown))]
+    pub fn process_count(&self) -> usize
+        ensures { (files : Files) → result ≡ count (node_of self.now files).processes }
+    {
+        self.processes.count()
     }
 
     /// How far the process's life is; one that isn't there has ended.
@@ -202,6 +200,16 @@ impl Node {
         match self.threads.thread(t) {
             Some(x) => x.pid,
             None => Pid(0),
+        }
+    }
+
+    /// The thread's place, one of sixteen in its process, or 0 where it doesn't live.
+    pub fn place(&self, t: Tid) -> u32
+        ensures { (files : Files) → result ≡ (thread_of (node_of self.now files) t.0).place }
+    {
+        match self.threads.thread(t) {
+            Some(x) => x.place,
+            None => 0,
         }
     }
 

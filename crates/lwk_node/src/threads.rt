@@ -4,6 +4,7 @@ ghost use Rattle.file_model.specs.Files.{Files};
 ghost use Rattle.kernel_model.specs.Nodes.{answered, change_process, change_thread, sent_back, set_a0, set_does, set_pc, without_sleeper, without_thread};
 ghost use Rattle.kernel_model.specs.declared.Does.TheVariants.{Ready};
 ghost use Rattle.lwk_node.specs.Totals.{instructions_in};
+ghost use Rattle.kernel_model.specs.Steps.{set_break};
 ghost use Rattle.kernel_model.specs.Traps.{finishes};
 ghost use Rattle.lwk_node.specs.Room.{KeepsRoom};
 ghost use Rattle.lwk_node.specs.Shown.{node_of};
@@ -110,7 +111,15 @@ impl Node {
         }
     }
 
-    /// Instructions of the process.
+    /// The process has another program break.
+    pub fn set_break(&mut self, p: Pid, address: u64)
+        ensures node { (files : Files) → node_of self.new files ≡ set_break p.0 address (node_of self.old files) }
+        ensures room { KeepsRoom self.old self.new }
+    {
+        self.processes.set_break(p, address);
+    }
+
+    /// Counts instructions of the process.
     pub fn counts(&mut self, p: Pid, n: u64)
         requires { instructions_in self.old.processes.map + n < 2 ^ 64 }
         ensures node { (files : Files) → node_of self.new files ≡ change_process p.0 (λ x. record x { instructions = x.instructions + n }) (node_of self.old files) }

@@ -56,6 +56,15 @@ impl Actions {
         }
     }
 
+    /// The same actions, for another process.
+    pub fn copied(&self) -> Actions
+        ensures { result ≡ self.now }
+    {
+        Actions {
+            actions: self.actions,
+        }
+    }
+
     /// What the process does at the signal.
     pub fn of(&self, sig: u32) -> Action
         requires least { 1 ≤ sig }

@@ -11,7 +11,7 @@ use Rattle.mck_word.specs.Maps.{Map, at, no_rows, put, values}
 use Rattle.std.proofs.Common.{◌≡◌, ◌≢◌, ◌+◌, ◌<◌, ◌≤◌, ℕ, zero, suc, Bool, true, false, cond, eqb, not, List, [], ◌∷◌, length, Some, None, refl, sym, ap, subst, ◌∙◌, inl, inr, arith}
 use Rattle.std.proofs.lemmas.List.{length-map}
 use Rattle.std.proofs.lemmas.Bool.{cases_eq, eq-eqb, ne_eqb, true≢false}
-use Rattle.std.specs.Prelude.{filter, is_some, map as map_list, replicate, slice_index_or, slice_set, ◌&&◌, ◌||◌}
+use Rattle.std.specs.Prelude.{filter, is_some, max, map as map_list, replicate, slice_index_or, slice_set, ◌&&◌, ◌||◌}
 
 -- no place is taken among those of no thread
 none_taken : (n place : ℕ) → slice_index_or (replicate n false) place false ≡ false
@@ -76,6 +76,13 @@ module _ {S : Type 0} where
         | false ↦ rest
       ]
 
+  -- the process of a live thread has a live thread
+  pub one-lives : (t : Threads S) (n : ℕ) (x : Thread S) → at t.rows n ≡ Some x → 1 ≤ live_threads x.pid.0 t
+  one-lives t n x there =
+      let all = passing-cut (is_of x.pid.0) t.rows n x there in
+      let one : one_if (eqb x.pid.0 x.pid.0) ≡ 1 = rw (eq-eqb x.pid.0 x.pid.0 refl) refl in
+      omega arith
+
   module _ (t : Threads S) (groups : Map Peers) (h : IsTable t groups) where
     abbrev taken : ℕ → ℕ → Bool
     taken p n = slice_index_or (peers_in (at groups p)).taken n false
@@ -101,7 +108,7 @@ module _ {S : Type 0} where
         zero_of : (k : ℕ) → not (eqb k 0) ≡ false → k ≡ 0
         zero_of k e = elim (cases_eq k 0) [ inl z ↦ z | inr o ↦ absurd (true≢false (sym (rw (ne_eqb k 0 o) refl) ∙ e)) ]
 
-    module _ (x : Thread S) (absent : at t.rows x.tid.0 ≡ None) (few : live_threads x.pid.0 t < most_threads) (within : x.place < most_threads) (free : passing (stands_at x.pid.0 x.place) (values t.rows) ≡ 0) where
+    module _ (x : Thread S) (absent : at t.rows x.tid.0 ≡ None) (few : live_threads x.pid.0 t < most_threads) (within : x.place < most_threads) (free : passing (stands_at x.pid.0 x.place) (values t.rows) ≡ 0) (known : x.pid.0 < max t.next (x.tid.0 + 1)) where
       abbrev grown : Peers
       grown = with_peer x.place (peers_in (at groups x.pid.0))
 
@@ -114,6 +121,7 @@ module _ {S : Type 0} where
       pub IsTable-enter : IsTable (with_thread x t) (joined x.pid.0 x.place groups)
       IsTable-enter = record {
         unused = λ n up. at-put t.rows x.tid.0 x n ∙ rw (ne_eqb n x.tid.0 (omega arith)) (h.unused n (omega arith));
+        born = λ p up. let is = live-joined p in let was = h.born p (omega arith) in let none : one_if (eqb x.pid.0 p) ≡ 0 = rw (ne_eqb x.pid.0 p (omega arith)) refl in omega arith;
         few = λ p. let is = live-joined p in let was = h.few p in elim (cases_eq x.pid.0 p) [
           | inl e ↦ let one : one_if (eqb x.pid.0 p) ≡ 1 = rw (eq-eqb x.pid.0 p e) refl in let less = subst (λ q. live_threads q t < most_threads) e few in omega arith
           | inr o ↦ let none : one_if (eqb x.pid.0 p) ≡ 0 = rw (ne_eqb x.pid.0 p o) refl in omega arith
@@ -220,6 +228,7 @@ module _ {S : Type 0} where
       pub IsTable-leave : IsTable (without_thread n t) (parted x.pid.0 x.place groups)
       IsTable-leave = record {
         unused = λ k up. at-cut t.rows n k ∙ elim (eqb k n) as (λ b. cond b None (at t.rows k) ≡ None) [ true ↦ refl | false ↦ h.unused k up ];
+        born = λ p up. let is = live-parted p in let was = h.born p up in omega arith;
         few = λ p. let is = live-parted p in let was = h.few p in omega arith;
         wide = λ p. ap (λ (g : Peers). length g.taken) (peers-parted p) ∙ elim (eqb p x.pid.0) as (λ b. length (cond b (cond (eqb fallen.live 0) no_peers fallen) (peers_in (at groups p))).taken ≡ most_threads) [
           | true ↦ elim (eqb fallen.live 0) as (λ b. length (cond b no_peers fallen).taken ≡ most_threads) [ true ↦ refl | false ↦ set-wide (peers_in (at groups x.pid.0)).taken x.place false ∙ h.wide x.pid.0 ]
@@ -236,6 +245,7 @@ module _ {S : Type 0} where
           | inl e ↦ absurd (true≢false (ap is_some (sym there ∙ h.unused n (subst (λ j. t.next ≤ j) e up))))
           | inr o ↦ rw (ne_eqb k n o) (h.unused k up)
         ];
+        born = λ p up. passing-change (is_of p) t.rows n x y there (ap (λ q. eqb q.0 p) pid) ∙ h.born p up;
         few = λ p. let is = passing-change (is_of p) t.rows n x y there (ap (λ q. eqb q.0 p) pid) in let was = h.few p in omega arith;
         wide = h.wide;
         counted = λ p. h.counted p ∙ sym (passing-change (is_of p) t.rows n x y there (ap (λ q. eqb q.0 p) pid));
@@ -245,6 +255,7 @@ module _ {S : Type 0} where
   pub IsTable-none : IsTable (no_threads {S = S}) no_rows
   IsTable-none = record {
     unused = λ n up. at-none n;
+    born = λ p up. passing-none (is_of {S = S} p);
     few = λ p. let none = passing-none (is_of {S = S} p) in omega arith;
     wide = λ p. rw (at-none {V = Peers} p) refl;
     counted = λ p. rw (at-none {V = Peers} p) (sym (passing-none (is_of {S = S} p)));

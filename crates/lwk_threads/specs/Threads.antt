@@ -140,9 +140,10 @@ module _ {S : Type 0} where
   abbrev pub stands_at : ℕ → ℕ → Thread S → Bool
   stands_at p place x = x.pid.0 == p && x.place == place
 
-  -- what holds of each table: no number from the next on is used, a process has at most sixteen threads, at different places
+  -- what holds of each table: no number from the next on is that of a thread or of its process, a process has at most sixteen threads, at different places
   pub record IsTable (t : Threads S) (groups : Map Peers) : Type 0 where
     pub unused : (n : ℕ) → t.next ≤ n → at t.rows n ≡ None
+    pub born : (p : ℕ) → t.next ≤ p → live_threads p t ≡ 0
     pub few : (p : ℕ) → live_threads p t ≤ most_threads
     pub wide : (p : ℕ) → length (peers_in (at groups p)).taken ≡ most_threads
     pub counted : (p : ℕ) → (peers_in (at groups p)).live ≡ live_threads p t

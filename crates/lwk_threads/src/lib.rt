@@ -9,7 +9,7 @@
 pub mod clone_values;
 pub mod member_rows;
 
-ghost use Rattle.std.specs.Prelude.{◌≡◌, ◌≤◌, ◌<◌, ◌+◌, ◌-◌, ◌^◌, ◌%◌, OnOk, IsTrue, IsSome, None, Some, option_map, length, filter, MatchOption, List, ℕ, slice_index};
+ghost use Rattle.std.specs.Prelude.{◌≡◌, ◌≤◌, ◌<◌, ◌+◌, ◌-◌, ◌^◌, ◌%◌, OnOk, IsTrue, IsSome, None, Some, option_map, length, filter, max, MatchOption, List, ℕ, slice_index};
 ghost use Rattle.std.specs.Option.{option_copied};
 ghost use Rattle.kernel_model.specs.Nodes.{most_threads};
 ghost use Rattle.key_rows.specs.Table.{key_from};
@@ -84,6 +84,7 @@ impl<S: Drop> ThreadTable<S> {
     pub fn fresh(&self) -> Tid
         ensures next { result.0 ≡ self.now.threads.next }
         ensures unused { at self.now.threads.rows result.0 ≡ None }
+        ensures nobody { live_threads result.0 self.now.threads ≡ 0 }
     {
         Tid(self.next_tid)
     }
@@ -125,6 +126,7 @@ impl<S: Drop> ThreadTable<S> {
         requires below { thread.tid.0 < 2 ^ 32 - 1 }
         requires few { live_threads thread.pid.0 self.old.threads < most_threads }
         requires within { thread.place < most_threads }
+        requires known { thread.pid.0 < max self.old.threads.next (thread.tid.0 + 1) }
         requires free { length (filter (stands_at thread.pid.0 thread.place) (values self.old.threads.rows)) ≡ 0 }
         ensures threads { self.new.threads ≡ with_thread thread self.old.threads }
         ensures takes { self.old.spare ≤ self.new.spare + 1 }
@@ -138,6 +140,7 @@ impl<S: Drop> ThreadTable<S> {
     pub fn first(&mut self, pid: Pid, tid: Tid, regs: Regs, mask: SigSet, state: S)
         requires room { 1 ≤ self.old.spare }
         requires alone { live_threads pid.0 self.old.threads ≡ 0 }
+        requires known { pid.0 ≤ tid.0 }
         requires below { tid.0 < 2 ^ 32 - 1 }
         requires unused { at self.old.threads.rows tid.0 ≡ None }
         ensures threads { self.new.threads ≡ with_thread (first_thread pid tid regs mask state) self.old.threads }
@@ -162,6 +165,7 @@ impl<S: Drop> ThreadTable<S> {
         ensures lowest { result ≡ lowest_free_place pid.0 self.now.threads }
         ensures within { result < most_threads }
         ensures free { length (filter (stands_at pid.0 result) (values self.now.threads.rows)) ≡ 0 }
+        ensures known { 1 ≤ live_threads pid.0 self.now.threads → pid.0 < self.now.threads.next }
     {
         place_among(&self.groups, pid)
     }

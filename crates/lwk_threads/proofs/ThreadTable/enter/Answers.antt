@@ -1,4 +1,4 @@
-use Rattle.std.proofs.Common.{◌<◌, ◌≡◌, ap, subst, sym, ◌∙◌}
+use Rattle.std.proofs.Common.{◌+◌, ◌<◌, ◌≡◌, max, ap, subst, sym, ◌∙◌}
 use Rattle.kernel_model.specs.Nodes.{most_threads}
 use Rattle.mck_word.specs.Maps.{at, values}
 use Rattle.lwk_threads.proofs.Counts.{passing}
@@ -14,4 +14,5 @@ invariant_of-self g c =
     let absent = ap (λ (t : Threads g.row.S.Denot). at t.rows x.tid.0) is ∙ c.requires.absent in
     let few = subst (λ (t : Threads g.row.S.Denot). live_threads x.pid.0 t < most_threads) (sym is) c.requires.few in
     let free = ap (λ (t : Threads g.row.S.Denot). passing (stands_at x.pid.0 x.place) (values t.rows)) is ∙ c.requires.free in
-    rw (c.max-self-inside.ensures, c.insert.ensures, c.join.ensures.rows) (IsTable-enter t c.self.inside.groups.map c.self.invariant x absent few c.requires.within free)
+    let known = subst (λ (t : Threads g.row.S.Denot). x.pid.0 < max t.next (x.tid.0 + 1)) (sym is) c.requires.known in
+    rw (c.max-self-inside.ensures, c.insert.ensures, c.join.ensures.rows) (IsTable-enter t c.self.inside.groups.map c.self.invariant x absent few c.requires.within free known)

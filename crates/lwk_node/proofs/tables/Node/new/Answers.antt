@@ -5,7 +5,7 @@ use Rattle.kernel_model.specs.declared.Does.{Does}
 use Rattle.lwk_node.proofs.Rows.{shown_thread}
 use Rattle.lwk_node.specs.Shown.{node_of, shown_line, shown_process}
 use Rattle.lwk_node.specs.declared.process_rows.Process.{Process}
-use Rattle.lwk_node.specs.declared.tables.ScriptLine.{ScriptLine}
+use Rattle.lwk_node.specs.declared.script_lines.ScriptLine.{ScriptLine}
 use Rattle.lwk_threads.specs.Threads.{Spared}
 use Rattle.mck_word.specs.EachLaws.{each-none}
 use Rattle.mck_word.specs.Maps.{Map, each, no_rows}

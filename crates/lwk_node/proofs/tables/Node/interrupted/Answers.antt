@@ -1,0 +1,11 @@
+use Rattle.kernel_model.specs.Nodes.{Thread as KernelThread, set_a0, set_pc}
+use Rattle.kernel_model.specs.SignalSets.{with_signal, without_signal}
+use Rattle.kernel_model.specs.Signals.{handler_mask, interrupted_regs}
+use Rattle.kernel_model.specs.declared.Does.TheVariants.{Ready}
+use Rattle.lwk_node.proofs.Rows.{thread_changed}
+use Rattle.mck_word.specs.Words.{word_of}
+use Rattle.std.proofs.Common.{false, refl, true, ◌+◌, ◌-◌, ◌^◌}
+use Rattle.lwk_node.proofs.tables.Node.interrupted.Goals as goal
+
+pub returns-clause-node : goal.returns-clause-node
+returns-clause-node c = λ files. thread_changed _ files _ c.args.t.0 _ (λ (x : KernelThread). record x { regs = interrupted_regs x.back c.args.a.now x.regs; back = false }) c.interrupt.ensures (λ x. refl)

@@ -1,0 +1,11 @@
+use Rattle.kernel_model.specs.LocalCalls.{code_of}
+use Rattle.kernel_model.specs.Nodes.{Process as KernelProcess, dies, dies_from}
+use Rattle.kernel_model.specs.SignalSets.{with_signal, without_signal}
+use Rattle.kernel_model.specs.Signals.{set_action}
+use Rattle.kernel_model.specs.Traps.{life_ended}
+use Rattle.lwk_node.proofs.Rows.{process_changed}
+use Rattle.std.proofs.Common.{Some, refl, true, ◌+◌}
+use Rattle.lwk_node.proofs.tables.Node.set_break.Goals as goal
+
+pub returns-clause-node : goal.returns-clause-node
+returns-clause-node c = λ files. process_changed _ files _ c.args.p.0 _ (λ (x : KernelProcess). record x { program_break = c.args.address }) c.set_break.ensures (λ x. refl)
