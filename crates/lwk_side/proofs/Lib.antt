@@ -1,3 +1,4 @@
 mod Slotted
+mod Viewing
 mod Calling
 mod Marking

@@ -11,6 +11,7 @@ mod kernel;
 mod replies;
 mod rounds;
 mod runs;
+mod script;
 mod task;
 
 pub use answers::{answer_to, may_answer};
