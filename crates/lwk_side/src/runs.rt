@@ -33,7 +33,14 @@ fn does_after(stop: Stop) -> Does
 
 impl Lwk {
     /// The thread executes at most `most` instructions, up to and with the first that stops.
-    pub fn run<T: PageTable>(&mut self, task: &Task<T>, channel: &Channel, t: Tid, most: u32, known: &mut KnownWords)
+    pub fn run<T: PageTable>(
+        &mut self,
+        task: &Task<T>,
+        channel: &Channel,
+        t: Tid,
+        most: u32,
+        known: &mut KnownWords,
+    )
         requires sound { IsSound self.old (T.rows task.now.space.table) }
         requires wired { Wired self.old channel.now.to_linux }
         requires lives { (files : Files) → has_thread (node_of self.old.node files) t.0 ≡ true }
@@ -44,8 +51,16 @@ impl Lwk {
     {
         let mut regs = self.node.regs(t);
         let mut stop = Stop::On;
-        let count = lwk_run::run(&mut regs, &task.space, &mut self.frames, known, most, &mut stop);
-        self.node.run_over(t, regs, does_after(stop), u64::from(count));
+        let count = lwk_run::run(
+            &mut regs,
+            &task.space,
+            &mut self.frames,
+            known,
+            most,
+            &mut stop,
+        );
+        self.node
+            .run_over(t, regs, does_after(stop), u64::from(count));
         self.ran_last(t);
         a_run_is_the_event();
     }

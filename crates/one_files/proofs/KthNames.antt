@@ -64,7 +64,7 @@ find-same p q h (x ∷ xs) = λ i. cond (h x i) (Some x) (find-same p q h xs i)
 pub kth-name : (es : List (ℕ × Inode)) (d k : ℕ) → find (is_kth es d k) (names_by_number es d) ≡ slice_get (sorted_by bytes_before (filter_map (name_in d) es)) k
 kth-name es d k =
     find-same (is_kth es d k) (kth bytes_before asym trans same (names_by_number es d) k)
-        (λ x i. nat_le (counted-all (λ n. bytes_before n x) d es i) k && nat_lt k (counted-all (λ n. not (bytes_before x n)) d es i)) (names_by_number es d)
+    (λ x i. nat_le (counted-all (λ n. bytes_before n x) d es i) k && nat_lt k (counted-all (λ n. not (bytes_before x n)) d es i)) (names_by_number es d)
     ∙ kth-found bytes_before asym trans same (names_by_number es d) k
 
 length-names : (d : ℕ) (es : List (ℕ × Inode)) → length (filter_map (name_in d) es) ≤ length es
