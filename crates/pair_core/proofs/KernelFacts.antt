@@ -1,0 +1,78 @@
+-- What an event of the lightweight kernel finds: sound frames, a channel with the job's rings, and a place in the ring of its thread.
+use Rattle.file_model.specs.Files.{Files}
+use Rattle.guest_laws.specs.RingRoom.{FindsRoom}
+use Rattle.hybrid_model.specs.Events.{after, after_here, process_of_event}
+use Rattle.hybrid_model.specs.Globals.{Coherent, Frames, copies, table_of}
+use Rattle.hybrid_model.specs.Pairs.{Here, Pair, here, put_here, side_of}
+use Rattle.hybrid_model.specs.Rings.{post, ring}
+use Rattle.hybrid_model.specs.Sides.{Row, Side as SideOf, new_side}
+use Rattle.hybrid_model.specs.Tallies.{if_same, tally}
+use Rattle.hybrid_model.specs.declared.events.Event.{Event}
+use Rattle.ikc_ring.specs.declared.Msg.{Msg}
+use Rattle.lwk_side.specs.Sound.{IsSound as IsSoundTable}
+use Rattle.lwk_side.specs.Wired.{Wired}
+use Rattle.mck_word.specs.EachLaws.{at-each}
+use Rattle.mck_word.specs.Lists.{member}
+use Rattle.mck_word.specs.MapLaws.{at-put}
+use Rattle.mck_word.specs.Maps.{Map, at, put}
+use Rattle.mck_word.specs.declared.Frame.{Frame}
+use Rattle.pair_core.proofs.Found.{here-is}
+use Rattle.pair_core.specs.Kept.{Kept}
+use Rattle.pair_core.specs.Ready.{IsSound}
+use Rattle.pair_core.specs.Shown.{here_in, pair_of, shown_side}
+use Rattle.pair_core.specs.declared.parts.Parts.{Parts}
+use Rattle.pair_core.specs.declared.parts.Side.{Side}
+use Rattle.std.proofs.Common.{ap, arith, refl, subst, sym, ◌∙◌}
+use Rattle.std.proofs.lemmas.Bool.Decides.{nat_tests}
+use Rattle.std.specs.Prelude.{zero, suc, Bool, List, None, Option, Some, [], cond, false, length, option_map, true, unwrap_or, ℕ, ◌++◌, ◌+◌, ◌<◌, ◌==◌, ◌∷◌, ◌≡◌}
+
+-- a frame without a copy among the free ones is none of them
+no-member : (f : ℕ) (free : List ℕ) → copies f free ≡ 0 → member f free ≡ false
+no-member f [] e = refl
+no-member f (g ∷ gs) e = ?
+
+-- a ring with a message more is longer
+pub post-longer : (r : ℕ) (m : Msg) (rs : List (List Msg)) → r < length rs → length (ring r (post r m rs)) ≡ length (ring r rs) + 1
+post-longer zero m [] h = absurd (omega (arith, h))
+post-longer zero m (ms ∷ rs) h = ?
+post-longer (suc r) m [] h = absurd (omega (arith, h))
+post-longer (suc r) m (ms ∷ rs) h = post-longer r m rs (omega (arith, h))
+
+module _ {T F : Type 0} (rows : T → Map Row) (files : F → Files) (x : Parts T F) (p : ℕ) (s : Side T) (there : at x.sides.map p ≡ Some s) where
+  -- the side that the state has of the process
+  pub side-is : side_of (pair_of rows files x) p ≡ shown_side rows s
+  unfolding pair_of
+  side-is = ap (λ o. unwrap_or o (new_side 0)) (at-each (shown_side rows) x.sides.map p ∙ ap (option_map (shown_side rows)) there)
+
+  row-of : (i : ℕ) (w : Row) → at (rows s.task.space.table) i ≡ Some w → table_of (pair_of rows files x) p i ≡ Some w
+  row-of i w e = ap (λ (side : SideOf). at side.lwk.table i) side-is ∙ e
+
+  pub sound-table : Coherent (pair_of rows files x) → Kept x → IsSoundTable x.lwk (rows s.task.space.table)
+  sound-table k kept = record {
+    inside = λ i w e. below i w e;
+    apart = λ i j v w a b e. (k.frames.apart p i v p j w (row-of i v a) (row-of j w b) (λ q. record { 0 = e q })).1;
+    taken = λ i w e. (let b = below i w e in let c = kept.pages in let d = kept.pool in omega (arith, b, c, d), no-member w.0.0 x.lwk.pool.free (free i w e));
+    frames = kept.pool ∙ sym kept.pages;
+  }
+    where
+      below : (i : ℕ) (w : Row) → at (rows s.task.space.table) i ≡ Some w → w.0.0 < length x.lwk.frames
+      unfolding pair_of
+      below i w e = let a = k.counted.rows_below p i w (row-of i w e) in let b = kept.pages in omega (arith, a, b)
+
+      free : (i : ℕ) (w : Row) → at (rows s.task.space.table) i ≡ Some w → copies w.0.0 x.lwk.pool.free ≡ 0
+      unfolding pair_of
+      free i w e = k.frames.not_free p i w (row-of i w e)
+
+  pub wired : IsSound (pair_of rows files x) → Wired x.lwk s.channel.to_linux
+  unfolding pair_of
+  wired k = record {
+    some_core = k.coherent.rings.cores;
+    few_cores = k.small.cores;
+    some_ring = k.coherent.rings.rings;
+    many = k.coherent.rings.each p (shown_side rows s) (at-each (shown_side rows) x.sides.map p ∙ ap (option_map (shown_side rows)) there);
+  }
+
+  -- the ring that the event makes longer has a place
+  pub place-in : (e : Event) (r : ℕ) → process_of_event (pair_of rows files x).node e ≡ p → FindsRoom (pair_of rows files x) e
+      → length (ring r s.channel.to_linux.messages) < length (ring r (after_here e p (here_in rows files x s)).side.to_linux) → length (ring r s.channel.to_linux.messages) < 49 + x.workers
+  place-in e r process room longer = ?
