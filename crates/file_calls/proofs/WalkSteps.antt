@@ -3,9 +3,9 @@ use Rattle.file_calls.specs.Walks.{steps, walked}
 use Rattle.file_model.specs.Errno.{ENAMETOOLONG, ENOENT, ENOTDIR}
 use Rattle.file_model.specs.Files.{Files, Name, node_of}
 use Rattle.file_model.specs.Paths.{Absent, NoPlace, Place, Present, child, dot, dot_dot, names_of, walk_names, without_dots}
-use Rattle.std.proofs.Common.{◌≡◌, ◌<◌, ◌≤◌, ℕ, Bool, true, false, cond, not, List, [], ◌∷◌, length, refl, ap, ◌∙◌}
+use Rattle.std.proofs.Common.{◌≡◌, ◌<◌, ◌≤◌, ℕ, Bool, true, false, cond, not, List, [], ◌∷◌, length, ap, ◌∙◌}
 use Rattle.std.proofs.lemmas.Bool.{lt-ltb, le-ltb}
-use Rattle.std.specs.Prelude.{Option, Some, None, bytes_eq, nat_lt, ◌==◌}
+use Rattle.std.specs.Prelude.{Some, None, bytes_eq, nat_lt, ◌==◌}
 
 pub steps-none : (t : List ℕ) → names_of t ≡ [] → steps t ≡ []
 unfolding steps

@@ -1,5 +1,5 @@
 -- Bytes that stand at the front of a buffer.
-use Rattle.std.specs.Prelude.{ℤ, pos, negsuc, ℕ, ◌+◌, ◌≡◌, List, ◌++◌, length, drop, Option, option_map}
+use Rattle.std.specs.Prelude.{ℤ, pos, negsuc, ℕ, ◌+◌, ◌≡◌, List, ◌++◌, length, drop}
 use Rattle.file_model.specs.Acts.{directory_record, all_records, records_that_fit, joined}
 use Rattle.file_model.specs.Files.{Files}
 use Rattle.file_model.specs.Operations.{FileResult}

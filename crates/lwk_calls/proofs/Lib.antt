@@ -1,2 +1,5 @@
-pub mod Waking
 pub mod Ending
+pub mod Refusing
+pub mod Waking
+pub mod Told
+pub mod Begun

@@ -1,13 +1,24 @@
-// Answers and refusals.
+// Answers and refusals, and what is read of arguments.
 ghost use Rattle.kernel_model.specs.LocalCalls.{answers};
+ghost use Rattle.kernel_model.specs.SignalSets.{minus};
 ghost use Rattle.lwk_node.specs.Room.{KeepsRoom};
 ghost use Rattle.lwk_views.specs.Views.{DidAlone};
+ghost use Rattle.mck_word.specs.Words.{has_bit};
+ghost use Rattle.std.specs.Prelude.{◌≡◌, ◌<◌};
 
 use lwk_node::Node;
 use mck_word::Tid;
 
-/// The refusals of the calls: negated error numbers.
+// The refusals of the calls: negated error numbers.
+pub const ECHILD: i64 = -10;
+
+pub const EAGAIN: i64 = -11;
+
+pub const EFAULT: i64 = -14;
+
 pub const EINVAL: i64 = -22;
+
+pub const ENOSYS: i64 = -38;
 
 /// The thread gets its answer, and is Ready.
 pub fn answers(node: &mut Node, t: Tid, answer: i64)
@@ -15,4 +26,19 @@ pub fn answers(node: &mut Node, t: Tid, answer: i64)
     ensures room { KeepsRoom node.old node.new }
 {
     node.answered(t, answer);
+}
+
+/// Whether the bit of that place is set.
+pub fn has_bit(place: u32, word: u64) -> bool
+    requires { place < 64 }
+    ensures { result ≡ has_bit place word }
+{
+    (word >> place) % 2 == 1
+}
+
+/// The bits of the first word that aren't in the second.
+pub fn minus(a: u64, b: u64) -> u64
+    ensures { result ≡ minus a b }
+{
+    a - (a & b)
 }

@@ -5,7 +5,6 @@ ghost use Rattle.lwk_node.specs.Room.{KeepsRoom};
 ghost use Rattle.lwk_tables.specs.Rows.{FramesApart, FramesIn};
 ghost use Rattle.lwk_views.specs.Views.{Did, DidAlone, Stepped};
 
-use crate::futexes::wake;
 use frame_mem::FrameMem;
 use lwk_node::Node;
 use lwk_tables::Space;
@@ -28,7 +27,7 @@ fn clear_word<T: PageTable>(
 {
     if address != 0 {
         try_store(space, mem, address, &[0; 4]);
-        wake(node, p, address, 1);
+        node.wake(p, address, 1);
     }
 }
 

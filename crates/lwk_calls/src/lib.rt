@@ -7,9 +7,15 @@
 #![tactic(auto)]
 
 mod answering;
+mod cloning;
 mod endings;
 mod futexes;
+mod numbers;
 mod own;
+mod waiting;
 
+pub use cloning::clone;
 pub use endings::{exits, exits_group};
+pub use futexes::futex;
 pub use own::{answers_zero, getpid, getppid, gettid, sets_clear_address, sets_robust_list};
+pub use waiting::{wait4, waited};

@@ -61,6 +61,10 @@ module _ (rows : Map Row) (pages : List (List ℕ)) where
         stored = (e ∙ ap (λ b. cond b (write_bytes (memory rows left) address bytes) (memory rows left)) (same false is)) ∙ h.stored;
       }
 
+  -- the memory is what it was
+  pub unstored : (node : KernelNode) (left : List (List ℕ)) (v : View) → memory rows left ≡ memory rows pages → Stands rows pages node pages v → Stands rows pages node left v
+  unstored node left v e h = record { began = h.began; now = h.now; stored = e ∙ h.stored }
+
   -- a step is done
   pub did : (before after : Node) (left : List (List ℕ)) (word : View → View) → FramesIn rows pages → OthersStay rows pages left → length left ≡ length pages
       → ((files : Files) → Stands rows pages (node_of after files) left (word (seen rows before pages files))) → Did rows before pages after left word

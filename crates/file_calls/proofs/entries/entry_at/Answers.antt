@@ -1,8 +1,8 @@
-use Rattle.std.proofs.Common.{◌≡◌, ◌+◌, ◌-◌, suc, sym, ap, ◌∙◌, arith, List, ℕ, Bool}
-use Rattle.std.specs.Prelude.{Option, Some, None, option_map, slice_get, unwrap_or}
-use Rattle.file_model.specs.Acts.{all_records, directory_record, entry_record}
+use Rattle.std.proofs.Common.{◌≡◌, ◌+◌, ◌-◌, suc, sym, ap, ◌∙◌, arith}
+use Rattle.std.specs.Prelude.{Some, option_map, unwrap_or}
+use Rattle.file_model.specs.Acts.{directory_record, entry_record}
 use Rattle.file_model.specs.Files.{Name, node_of}
-use Rattle.file_model.specs.Paths.{child, names_in}
+use Rattle.file_model.specs.Paths.{child}
 use Rattle.file_calls.proofs.EntryRecords.{all-names}
 use Rattle.file_calls.proofs.entries.entry_at.Goals as goal
 

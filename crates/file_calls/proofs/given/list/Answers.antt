@@ -1,8 +1,8 @@
-use Rattle.std.proofs.Common.{rules, ◌≡◌, sym, ap, subst, ◌∙◌, true, false, length, List, ℕ, w64, of_z, to_z}
+use Rattle.std.proofs.Common.{rules, ◌≡◌, sym, ap, subst, ◌∙◌, length, w64, of_z, to_z}
 use Rattle.std.specs.Prelude.{◌&&◌, ◌==◌, drop, nat_lt, pos, ◌+◌}
 use Rattle.file_calls.specs.Placed.{Gives, IsFilled, fitting, len_said}
 use Rattle.file_model.specs.Acts.{all_records, list_node}
-use Rattle.file_model.specs.Files.{description_of, set_offset}
+use Rattle.file_model.specs.Files.{set_offset}
 use Rattle.file_model.specs.Errno.{EINVAL}
 use Rattle.mck_word.specs.Words.{refused}
 use Rattle.file_calls.proofs.EntryRecords.{list-stuck, list-filled}

@@ -14,7 +14,7 @@ pub returns-then-address-ne0-clause-did : goal.returns-then-address-ne0-clause-d
 returns-then-address-ne0-clause-did g c =
     let rows = g.T.PageTable.rows c.args.space.now.table in
     let n = c.args.node.now in
-    let after = c.wake.new.node in
+    let after = c.wake.new.self in
     let pages = c.args.mem.now in
     let left = c.try_store.new.mem in
     let p = c.args.p.0 in
@@ -24,7 +24,7 @@ returns-then-address-ne0-clause-did g c =
     did_as rows pages n after left word (cleared p a) (λ files. let v = seen rows n pages files in ap (λ b. cond b v (word v)) (ne_eqb a 0 c.if-address-ne0.true))
     (did rows pages n after left word c.requires.frames c.try_store.ensures.others c.try_store.ensures.count
     (λ files. let k = node_of n files in let v = seen rows n pages files in
-    steps rows pages (wake p a 1) k (node_of after files) left (try_store a zeros v) (c.wake.ensures.is files)
+    steps rows pages (wake p a 1) k (node_of after files) left (try_store a zeros v) (c.wake.ensures.node files)
     (tries rows pages a zeros k pages left v c.try_store.ensures.memory (begins rows pages k))))
 
 pub returns-else-address-ne0-clause-did : goal.returns-else-address-ne0-clause-did
