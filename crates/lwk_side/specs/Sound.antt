@@ -11,3 +11,8 @@ pub record IsSound (lwk : Lwk) (rows : Map Row) : Type 0 where
   pub apart : FramesApart rows
   pub taken : FramesTaken rows lwk.pool
   pub frames : lwk.pool.frames ≡ length lwk.frames
+
+-- no frame comes or goes
+pub record KeepsFrames (a b : Lwk) : Type 0 where
+  pub pages : length b.frames ≡ length a.frames
+  pub pool : b.pool.frames ≡ a.pool.frames

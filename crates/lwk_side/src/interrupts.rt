@@ -1,6 +1,7 @@
 // Interrupts of threads that call, sleep or wait.
 ghost use Rattle.hybrid_model.specs.Lwk.{interrupt, is_calling, may_interrupt};
 ghost use Rattle.lwk_side.specs.Marks.{marked};
+ghost use Rattle.lwk_side.specs.Sound.{KeepsFrames};
 ghost use Rattle.lwk_side.specs.Shown.{Rest, here_of, shown_caller};
 ghost use Rattle.lwk_side.specs.Wired.{HasPlace, Wired};
 ghost use Rattle.mck_word.specs.Maps.{at, each};
@@ -37,8 +38,9 @@ impl Lwk {
         requires wired { Wired self.old channel.old.to_linux }
         requires place { HasPlace self.old channel.old.to_linux t.0 }
         requires calls { IsSome (at task.old.callers.map t.0) }
-        ensures { (r : Rest) → here_of self.new (T.rows task.new.space.table) task.new channel.new r
+        ensures event { (r : Rest) → here_of self.new (T.rows task.new.space.table) task.new channel.new r
             ≡ marked t.0 (shown_caller caller) (here_of self.old (T.rows task.old.space.table) task.old channel.old r) }
+        ensures frames { KeepsFrames self.old self.new }
     {
         let place = self.node.place(t);
         let ring = self.ring_of(t);
@@ -58,8 +60,9 @@ impl Lwk {
     pub fn interrupt<T: PageTable>(&mut self, task: &mut Task<T>, channel: &mut Channel, t: Tid)
         requires wired { Wired self.old channel.old.to_linux }
         requires place { IsSome (at task.old.callers.map t.0) → HasPlace self.old channel.old.to_linux t.0 }
-        ensures { (r : Rest) → here_of self.new (T.rows task.new.space.table) task.new channel.new r
+        ensures event { (r : Rest) → here_of self.new (T.rows task.new.space.table) task.new channel.new r
             ≡ interrupt t.0 (here_of self.old (T.rows task.old.space.table) task.old channel.old r) }
+        ensures frames { KeepsFrames self.old self.new }
     {
         match task.callers.get(t.0 as u64).copied() {
             Some(caller) => self.mark(task, channel, t, caller),

@@ -2,6 +2,7 @@
 ghost use Rattle.hybrid_model.specs.Lwk.{caller_of, take_fault, take_reply};
 ghost use Rattle.hybrid_model.specs.Rings.{rest_of};
 ghost use Rattle.ikc_ring.specs.Rings.{without_head};
+ghost use Rattle.lwk_side.specs.Sound.{KeepsFrames};
 ghost use Rattle.lwk_side.specs.Shown.{Rest, here_of, shown_caller};
 ghost use Rattle.lwk_side.specs.Wired.{CallersFit};
 ghost use Rattle.mck_word.specs.Maps.{at, each};
@@ -45,8 +46,9 @@ impl Lwk {
         code: i64,
     )
         requires { CallersFit task.old.callers.map }
-        ensures { (r : Rest) → here_of self.new (T.rows task.new.space.table) task.new channel.new r
+        ensures event { (r : Rest) → here_of self.new (T.rows task.new.space.table) task.new channel.new r
             ≡ take_reply q.0 code (rest_of channel.old.to_lwk.items) (here_of self.old (T.rows task.old.space.table) task.old channel.old r) }
+        ensures frames { KeepsFrames self.old self.new }
     {
         let Some(t) = caller_of(&task.callers, q) else {
             return;

@@ -7,7 +7,7 @@ ghost use Rattle.kernel_model.specs.Traps.{does_after};
 ghost use Rattle.lwk_node.specs.Shown.{node_of};
 ghost use Rattle.lwk_node.specs.Totals.{instructions_in};
 ghost use Rattle.lwk_side.specs.Shown.{Rest, here_of};
-ghost use Rattle.lwk_side.specs.Sound.{IsSound};
+ghost use Rattle.lwk_side.specs.Sound.{IsSound, KeepsFrames};
 ghost use Rattle.lwk_side.specs.Wired.{Wired};
 ghost use Rattle.std.specs.Prelude.{◌≡◌, ◌≤◌, ◌<◌, ◌+◌, ◌^◌, true};
 
@@ -46,8 +46,9 @@ impl Lwk {
         requires lives { (files : Files) → has_thread (node_of self.old.node files) t.0 ≡ true }
         requires some { 1 ≤ most }
         requires limit { instructions_in self.old.node.processes.map + most < 2 ^ 64 }
-        ensures { (r : Rest) → here_of self.new (T.rows task.now.space.table) task.now channel.now r
+        ensures event { (r : Rest) → here_of self.new (T.rows task.now.space.table) task.now channel.now r
             ≡ run t.0 most (here_of self.old (T.rows task.now.space.table) task.now channel.now r) }
+        ensures frames { KeepsFrames self.old self.new }
     {
         let mut regs = self.node.regs(t);
         let mut stop = Stop::On;

@@ -3,7 +3,7 @@ use Rattle.file_model.specs.Files.{Files}
 use Rattle.guest_laws.specs.RingRoom.{FindsRoom}
 use Rattle.hybrid_model.specs.Events.{after, after_here, process_of_event}
 use Rattle.hybrid_model.specs.Globals.{Coherent, Frames, copies, table_of}
-use Rattle.hybrid_model.specs.Pairs.{Here, Pair, here, put_here, side_of}
+use Rattle.hybrid_model.specs.Pairs.{Here, Pair, here, put_here, side_of, with_born}
 use Rattle.hybrid_model.specs.Rings.{post, ring}
 use Rattle.hybrid_model.specs.Sides.{Row, Side as SideOf, new_side}
 use Rattle.hybrid_model.specs.Tallies.{if_same, tally}
@@ -24,17 +24,22 @@ use Rattle.pair_core.specs.declared.parts.Parts.{Parts}
 use Rattle.pair_core.specs.declared.parts.Side.{Side}
 use Rattle.std.proofs.Common.{ap, arith, refl, subst, sym, ◌∙◌}
 use Rattle.std.proofs.lemmas.Bool.Decides.{nat_tests}
-use Rattle.std.specs.Prelude.{zero, suc, Bool, List, None, Option, Some, [], cond, false, length, option_map, true, unwrap_or, ℕ, ◌++◌, ◌+◌, ◌<◌, ◌==◌, ◌∷◌, ◌≡◌}
+use Rattle.std.proofs.lemmas.List.{length-append}
+use Rattle.std.specs.Prelude.{zero, suc, Bool, List, None, Option, Some, [], cond, false, length, if◌then◌else◌, option_map, true, unwrap_or, ℕ, ◌||◌, ◌++◌, ◌+◌, ◌<◌, ◌==◌, ◌∷◌, ◌≡◌}
 
 -- a frame without a copy among the free ones is none of them
 no-member : (f : ℕ) (free : List ℕ) → copies f free ≡ 0 → member f free ≡ false
 no-member f [] e = refl
-no-member f (g ∷ gs) e = ?
+no-member f (g ∷ gs) e = go (f == g) refl e
+  where
+    go : (b : Bool) → (f == g) ≡ b → (if b then 1 else 0) + copies f gs ≡ 0 → ((g == f) || member f gs) ≡ false
+    go true i h = absurd (omega (arith, h))
+    go false i h = let a : (g == f) ≡ false = grind (arith, nat_tests, i) in rw a (no-member f gs h)
 
 -- a ring with a message more is longer
 pub post-longer : (r : ℕ) (m : Msg) (rs : List (List Msg)) → r < length rs → length (ring r (post r m rs)) ≡ length (ring r rs) + 1
 post-longer zero m [] h = absurd (omega (arith, h))
-post-longer zero m (ms ∷ rs) h = ?
+post-longer zero m (ms ∷ rs) h = length-append ms (m ∷ [])
 post-longer (suc r) m [] h = absurd (omega (arith, h))
 post-longer (suc r) m (ms ∷ rs) h = post-longer r m rs (omega (arith, h))
 
@@ -48,6 +53,7 @@ module _ {T F : Type 0} (rows : T → Map Row) (files : F → Files) (x : Parts 
   row-of i w e = ap (λ (side : SideOf). at side.lwk.table i) side-is ∙ e
 
   pub sound-table : Coherent (pair_of rows files x) → Kept x → IsSoundTable x.lwk (rows s.task.space.table)
+  unfolding pair_of
   sound-table k kept = record {
     inside = λ i w e. below i w e;
     apart = λ i j v w a b e. (k.frames.apart p i v p j w (row-of i v a) (row-of j w b) (λ q. record { 0 = e q })).1;
@@ -56,11 +62,9 @@ module _ {T F : Type 0} (rows : T → Map Row) (files : F → Files) (x : Parts 
   }
     where
       below : (i : ℕ) (w : Row) → at (rows s.task.space.table) i ≡ Some w → w.0.0 < length x.lwk.frames
-      unfolding pair_of
       below i w e = let a = k.counted.rows_below p i w (row-of i w e) in let b = kept.pages in omega (arith, a, b)
 
       free : (i : ℕ) (w : Row) → at (rows s.task.space.table) i ≡ Some w → copies w.0.0 x.lwk.pool.free ≡ 0
-      unfolding pair_of
       free i w e = k.frames.not_free p i w (row-of i w e)
 
   pub wired : IsSound (pair_of rows files x) → Wired x.lwk s.channel.to_linux
@@ -72,7 +76,24 @@ module _ {T F : Type 0} (rows : T → Map Row) (files : F → Files) (x : Parts 
     many = k.coherent.rings.each p (shown_side rows s) (at-each (shown_side rows) x.sides.map p ∙ ap (option_map (shown_side rows)) there);
   }
 
+  -- the side that an event which begins no process leaves
+  pub after-side : (e : Event) → process_of_event (pair_of rows files x).node e ≡ p → (after_here e p (here_in rows files x s)).born ≡ None → side_of (after (pair_of rows files x) e) p ≡ (after_here e p (here_in rows files x s)).side
+  after-side e process none =
+      let pair = pair_of rows files x in
+      ap (λ q. side_of (put_here pair q (after_here e q (here pair q))) p) process
+      ∙ ap (λ (h : Here). side_of (put_here pair p (after_here e p h)) p) (here-is rows files x p s there)
+      ∙ ap (λ b. unwrap_or (at (with_born (put pair.sides p (after_here e p (here_in rows files x s)).side) b) p) (new_side 0)) none
+      ∙ ap (λ o. unwrap_or o (new_side 0)) (at-put pair.sides p (after_here e p (here_in rows files x s)).side p ∙ own)
+    where
+      own : cond (p == p) (Some (after_here e p (here_in rows files x s)).side) (at (pair_of rows files x).sides p) ≡ Some (after_here e p (here_in rows files x s)).side
+      own = let a : (p == p) ≡ true = grind (arith, nat_tests) in rw a refl
+
   -- the ring that the event makes longer has a place
-  pub place-in : (e : Event) (r : ℕ) → process_of_event (pair_of rows files x).node e ≡ p → FindsRoom (pair_of rows files x) e
+  pub place-in : (e : Event) (r : ℕ) → process_of_event (pair_of rows files x).node e ≡ p → (after_here e p (here_in rows files x s)).born ≡ None → FindsRoom (pair_of rows files x) e
       → length (ring r s.channel.to_linux.messages) < length (ring r (after_here e p (here_in rows files x s)).side.to_linux) → length (ring r s.channel.to_linux.messages) < 49 + x.workers
-  place-in e r process room longer = ?
+  unfolding pair_of
+  place-in e r process none room longer =
+      let before = ap (λ (side : SideOf). length (ring r side.to_linux)) side-is in
+      let later = ap (λ (side : SideOf). length (ring r side.to_linux)) (after-side e process none) in
+      let a = room.to_linux p r (omega (arith, before, later, longer)) in
+      omega (arith, before, a)

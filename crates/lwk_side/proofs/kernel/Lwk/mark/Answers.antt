@@ -8,8 +8,8 @@ use Rattle.mck_word.specs.Maps.{each}
 use Rattle.std.proofs.Common.{ap, ◌∙◌}
 use Rattle.std.specs.Prelude.{None, option_map, true}
 
-pub returns : goal.returns
-returns g c = λ r. λ j. record {
+pub returns-clause-event : goal.returns-clause-event
+returns-clause-event g c = λ r. λ j. record {
   side = record {
     lwk = record {
       table = g.T.PageTable.rows c.args.task.now.space.table;

@@ -14,8 +14,8 @@ use Rattle.rv64i_user.specs.Runs.{instrs}
 use Rattle.std.proofs.Common.{ap, refl, sym, ◌∙◌}
 use Rattle.std.specs.Prelude.{None, ◌%◌}
 
-pub returns : goal.returns
-returns g c = λ r.
+pub returns-clause-event : goal.returns-clause-event
+returns-clause-event g c = λ r.
     let rows = g.T.PageTable.rows c.args.task.now.space.table in
     let h = here_of c.args.self.now rows c.args.task.now c.args.channel.now r in
     let node = node_of c.args.self.now.node r.files in
