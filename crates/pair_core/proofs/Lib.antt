@@ -1,1 +1,3 @@
+pub mod Facts
 pub mod Found
+pub mod Linux

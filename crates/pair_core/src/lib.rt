@@ -6,5 +6,6 @@
 
 mod parts;
 mod pins;
+mod requests;
 
 pub use parts::{Parts, Side};
