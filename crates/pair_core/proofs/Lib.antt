@@ -1,3 +1,4 @@
 pub mod Facts
+pub mod Fetched
 pub mod Found
 pub mod Linux

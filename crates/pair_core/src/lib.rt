@@ -5,6 +5,7 @@
 #![tactic(auto)]
 
 mod parts;
+mod pieces;
 mod pins;
 mod requests;
 

@@ -7,11 +7,18 @@ ghost use Rattle.pair_core.specs.Ready.{Ready};
 ghost use Rattle.pair_core.specs.Shown.{pair_of};
 ghost use Rattle.std.specs.Prelude.{◌≡◌};
 
-use crate::parts::Parts;
+use crate::parts::{Parts, Side};
 use file_calls::store::FileStore;
 use mck_word::Pid;
 use page_map::PageTable;
 use std::alloc::Global;
+
+/// How many rounds of the process began.
+fn rounds_begun<T: PageTable>(side: &Side<T>) -> u64
+    ensures { result ≡ side.now.task.begun }
+{
+    side.task.begun
+}
 
 impl<T: PageTable + Drop, F: FileStore> Parts<T, F> {
     /// The proxy takes the first message of a ring.
@@ -23,7 +30,8 @@ impl<T: PageTable + Drop, F: FileStore> Parts<T, F> {
         ensures kept { Kept self.new }
     {
         let side = self.sides.row_mut(p.0 as u64);
-        let _begun = side.task.begun;
+        // As many Clears as rounds began are below 2^64.
+        let _begun = rounds_begun(side);
         let Some(m) = side.channel.to_linux.take(r) else {
             return;
         };
