@@ -1,4 +1,6 @@
+pub mod Copied
 pub mod Facts
 pub mod Fetched
+pub mod FewCalls
 pub mod Found
 pub mod Linux

@@ -4,7 +4,7 @@ use Rattle.hybrid_laws.specs.Serving.{Serves}
 use Rattle.hybrid_laws.specs.Tests.{not-empty}
 use Rattle.hybrid_model.specs.Coherence.{OfProcess, is_fetched, state_at}
 use Rattle.hybrid_model.specs.Linux.{holds}
-use Rattle.hybrid_model.specs.Sides.{Book, LinuxSide, Side, state_in}
+use Rattle.hybrid_model.specs.Sides.{Book, LinuxSide, Side, serves, state_in}
 use Rattle.hybrid_model.specs.Spaces.{first_number}
 use Rattle.hybrid_model.specs.Tallies.{if_same, tally}
 use Rattle.kernel_model.specs.Nodes.{Node}
@@ -12,7 +12,7 @@ use Rattle.mck_word.specs.Maps.{at}
 use Rattle.request_book.specs.declared.ReqState.{ReqState}
 use Rattle.request_book.specs.declared.ReqState.TheVariants.{Held, Waiting}
 use Rattle.std.proofs.Common.{ap, refl, sym, ◌∙◌}
-use Rattle.std.specs.Prelude.{List, [], is_some, length, not, true, ℕ, ◌==◌, ◌∷◌, ◌≡◌}
+use Rattle.std.specs.Prelude.{List, [], is_some, length, not, true, unwrap_or, ℕ, ◌==◌, ◌∷◌, ◌≡◌}
 
 -- a worker that serves a request that is Held holds it
 pub held-holds : (l : LinuxSide) (b : Book) (w : ℕ) → Serves l b w Held → holds l b w ≡ true
@@ -34,3 +34,7 @@ module _ (p : ℕ) (side : Side) (node : Node) (worker_count : ℕ) (ring_of : �
       let waits : (q : ℕ) → tally (if_same q) (a.0 ∷ a.1) ≡ tally (if_same q) side.book.waiting = (λ q. ap (tally (if_same q)) (sym list)) in
       let b = waiting-first (at side.book.rows) a.0 a.1 (λ q. waits q ∙ k.served.waits q) in
       ap (λ ws. is_some (at side.linux.services (first_number ws))) list ∙ has-service a.0 Waiting (ap state_in b.1) refl
+
+  -- the request that a worker holds has one
+  pub held-served : (w : ℕ) → Serves side.linux side.book w Held → is_some (at side.linux.services (serves side.linux w)) ≡ true
+  held-served w x = ap (λ o. is_some (at side.linux.services (unwrap_or o 0))) x.serving ∙ has-service x.number Held (ap state_in x.is) refl
