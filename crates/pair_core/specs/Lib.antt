@@ -1,3 +1,4 @@
 pub mod Kept
+pub mod LinuxRoom
 pub mod Ready
 pub mod Shown

@@ -4,7 +4,10 @@
 //! state that the two kernels reach (specs/Ready). What takes memory has its room made before.
 #![tactic(auto)]
 
+mod parks;
 mod parts;
+mod pieces;
 mod pins;
+mod requests;
 
 pub use parts::{Parts, Side};

@@ -1,23 +1,34 @@
-use Rattle.hybrid_laws.specs.Tests.{both, not-true}
+use Rattle.hybrid_laws.specs.Pin.{may-pin}
+use Rattle.hybrid_model.specs.Pairs.{Here, with_side}
 use Rattle.hybrid_model.specs.declared.events.Event.TheVariants.{Pin}
-use Rattle.lwk_side.specs.Shown.{here_of}
 use Rattle.mck_word.specs.Maps.{at}
-use Rattle.pair_core.proofs.Found.{after-is, has-row, may-here}
+use Rattle.pair_core.proofs.Facts.{finds, kept-put, worker-small}
+use Rattle.pair_core.proofs.Found.{after-is, has-row}
 use Rattle.pair_core.proofs.parts.Parts.pin.Goals as goal
-use Rattle.pair_core.specs.Shown.{here_in, rest_of}
-use Rattle.std.proofs.Common.{ap, refl, sym, ◌∙◌}
+use Rattle.pair_core.specs.Shown.{here_in}
+use Rattle.std.proofs.Common.{ap, refl}
+use Rattle.std.specs.Prelude.{is_some}
 
 pub row_mut-side-requires : goal.row_mut-side-requires
-row_mut-side-requires g c = has-row g.T.PageTable.rows g.F.FileStore.files c.args.self.now c.args.p.0 (Pin c.args.p c.args.w) refl c.requires
+row_mut-side-requires g c = has-row g.T.PageTable.rows g.F.FileStore.files c.args.self.now c.args.p.0 (Pin c.args.p c.args.w) refl c.requires.ready
 
 pub pin-requires-clause-worker : goal.pin-requires-clause-worker
-pin-requires-clause-worker g c = ?
+pin-requires-clause-worker g c =
+    let f = finds g.T.PageTable.rows g.F.FileStore.files c.args.self.now c.args.p.0 c.row_mut-side.result.now (Pin c.args.p c.args.w) c.row_mut-side.ensures.value refl c.requires.ready in
+    let h : Here = here_in g.T.PageTable.rows g.F.FileStore.files c.args.self.now c.row_mut-side.result.now in
+    worker-small g.T.PageTable.rows g.F.FileStore.files c.args.self.now c.args.p.0 c.row_mut-side.result.now c.args.w f (may-pin h c.args.p c.args.w f.may).below
 
 pub pin-requires-clause-free : goal.pin-requires-clause-free
 pin-requires-clause-free g c =
-    let may = (both _ _ (may-here g.T.PageTable.rows g.F.FileStore.files c.args.self.now c.args.p.0 c.row_mut-side.result.now (Pin c.args.p c.args.w) c.row_mut-side.ensures.value refl c.requires)).1 in
-    not-true _ (both _ _ (both _ _ (both _ _ may).0).0).1
+    let f = finds g.T.PageTable.rows g.F.FileStore.files c.args.self.now c.args.p.0 c.row_mut-side.result.now (Pin c.args.p c.args.w) c.row_mut-side.ensures.value refl c.requires.ready in
+    let h : Here = here_in g.T.PageTable.rows g.F.FileStore.files c.args.self.now c.row_mut-side.result.now in
+    ap is_some (may-pin h c.args.p c.args.w f.may).no_pin
 
-pub returns : goal.returns
-returns g c = after-is g.T.PageTable.rows g.F.FileStore.files c.args.self.now _ c.args.p.0 c.row_mut-side.result.now _ (Pin c.args.p c.args.w) c.row_mut-side.ensures.value refl refl
-    (ap (λ l. here_of c.args.self.now.lwk (g.T.PageTable.rows c.row_mut-side.result.now.task.space.table) c.row_mut-side.result.now.task c.row_mut-side.result.now.channel (record (rest_of g.T.PageTable.rows g.F.FileStore.files c.args.self.now c.row_mut-side.result.now) { linux = l })) c.pin.ensures)
+pub returns-clause-after : goal.returns-clause-after
+returns-clause-after g c =
+    let h : Here = here_in g.T.PageTable.rows g.F.FileStore.files c.args.self.now c.row_mut-side.result.now in
+    after-is g.T.PageTable.rows g.F.FileStore.files c.args.self.now _ c.args.p.0 c.row_mut-side.result.now _ (Pin c.args.p c.args.w) c.row_mut-side.ensures.value refl refl
+    (λ i. with_side h (record h.side { linux = c.pin.ensures i }))
+
+pub returns-clause-kept : goal.returns-clause-kept
+returns-clause-kept g c = kept-put c.args.self.now _ c.args.p.0 c.row_mut-side.result.now _ c.requires.kept c.row_mut-side.ensures.value refl refl refl refl refl refl refl
