@@ -1,2 +1,3 @@
 pub mod Above
 pub mod First
+pub mod Offered
