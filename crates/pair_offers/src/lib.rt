@@ -8,6 +8,8 @@
 mod inspect;
 mod offering;
 mod seeking;
+mod standing;
 
 pub use inspect::Inspect;
 pub use offering::offer;
+pub use standing::ending;
