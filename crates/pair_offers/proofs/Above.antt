@@ -9,7 +9,7 @@ use Rattle.std.proofs.lemmas.Bool.Decides.{nat_tests}
 use Rattle.std.specs.FinMap as finmap
 use Rattle.std.specs.FinMap.Entries as fin
 use Rattle.std.specs.Ordering.{is_lt, nat_cmp}
-use Rattle.std.specs.Prelude.{Bool, IfSome, List, None, Option, Some, T, [], cond, false, filter, find, length, map, min, nat_le, nat_lt, option_map, suc, true, ℕ, ◌&&◌, ◌+◌, ◌<◌, ◌≡◌, ◌≤◌, ◌∷◌}
+use Rattle.std.specs.Prelude.{Bool, IfSome, List, None, Option, Some, T, [], cond, false, filter, find, map, min, nat_le, nat_lt, option_map, true, ℕ, ◌+◌, ◌<◌, ◌≡◌, ◌≤◌, ◌∷◌}
 
 -- ---- keys rise
 abbrev pub Rises : List ℕ → Type 0

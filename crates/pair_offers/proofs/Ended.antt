@@ -1,5 +1,5 @@
 -- Whether some actor has an offer, number by number, and how a run stands by that.
-use Rattle.hybrid_model.specs.Journals.{ending, ending_of_run, is_at_end}
+use Rattle.hybrid_model.specs.Journals.{ending, ending_of_run}
 use Rattle.hybrid_model.specs.Pairs.{Pair}
 use Rattle.hybrid_model.specs.declared.events.Ending.{Ending}
 use Rattle.hybrid_model.specs.declared.events.Ending.TheVariants.{Unfinished}
@@ -10,7 +10,7 @@ use Rattle.pair_offers.proofs.First.{below, below-split}
 use Rattle.pair_offers.specs.Standing.{offers, some_offers}
 use Rattle.run_model.specs.Walks.{Chosen, actors, first_chosen, offer}
 use Rattle.run_model.specs.declared.actors.Actor.{Actor}
-use Rattle.std.proofs.Common.{ap, refl, sym, ◌∙◌}
+use Rattle.std.proofs.Common.{ap, refl, ◌∙◌}
 use Rattle.std.specs.Prelude.{Bool, List, None, Option, Some, [], cond, false, is_none, is_some, map, not, true, ℕ, ◌+◌, ◌<◌, ◌||◌, ◌∷◌, ◌≡◌, ◌≢◌, ◌≤◌}
 
 module _ (pair : Pair) where

@@ -9,9 +9,9 @@ use Rattle.mck_word.specs.Lists.{count_from}
 use Rattle.pair_offers.proofs.Above.{Rises, next-above, none-above}
 use Rattle.pair_offers.specs.Seeking.{first_by}
 use Rattle.run_model.specs.Walks.{core_event, first_event, is_above_last, run_of}
-use Rattle.std.proofs.Common.{ap, arith, refl, subst, sym, ◌∙◌}
+use Rattle.std.proofs.Common.{ap, arith, refl, sym, ◌∙◌}
 use Rattle.std.proofs.lemmas.Bool.Decides.{nat_tests}
-use Rattle.std.specs.Prelude.{◌==◌, ◌%◌, Bool, List, None, Option, Some, [], cond, drop, filter, find, get_or, length, map, option_map, slice_get, suc, true, false, zero, ℕ, ◌++◌, ◌+◌, ◌-◌, ◌<◌, ◌≡◌, ◌≤◌, ◌∷◌}
+use Rattle.std.specs.Prelude.{◌==◌, ◌%◌, Bool, List, None, Option, Some, [], cond, drop, filter, find, length, map, option_map, slice_get, suc, true, false, zero, ℕ, ◌++◌, ◌+◌, ◌-◌, ◌<◌, ◌≡◌, ◌≤◌, ◌∷◌}
 
 -- ---- one number after another
 module _ {A : Type 0} (f : ℕ → Option A) where

@@ -11,10 +11,9 @@ use Rattle.pair_offers.proofs.Above.{all-above}
 use Rattle.pair_offers.proofs.First.{event-by, find-kept, found-behind, found-first}
 use Rattle.pair_offers.specs.Seeking.{event_of, first_by, is_thread_of, sought}
 use Rattle.pair_offers.specs.declared.seeking.Numbered.{Numbered}
-use Rattle.pair_offers.specs.declared.seeking.Numbered.TheVariants.{Answers, Assigns, Fetches}
 use Rattle.pair_offers.specs.declared.seeking.Wanted.TheVariants.{ToBegin, ToInterrupt, ToRun, ToWait}
 use Rattle.run_model.specs.Walks.{core_event, core_offer, first_event, is_above_last, kernel_offer, linux_offer, thread_numbers}
-use Rattle.std.proofs.Common.{append_assoc, ap, refl, sym, ◌∙◌}
+use Rattle.std.proofs.Common.{append_assoc, ap, sym, ◌∙◌}
 use Rattle.std.specs.Prelude.{List, None, Option, Some, [], filter, find, map, ℕ, ◌++◌, ◌∷◌, ◌≡◌}
 
 -- ---- cores

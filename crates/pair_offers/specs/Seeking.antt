@@ -4,7 +4,6 @@ use Rattle.hybrid_model.specs.declared.events.Event.{Event}
 use Rattle.hybrid_model.specs.declared.events.Event.TheVariants.{Answer, Assign, BeginVm, Fetch, Interrupt, Wait}
 use Rattle.kernel_model.specs.Nodes.{thread_of}
 use Rattle.mck_word.specs.Identifiers.{tid}
-use Rattle.mck_word.specs.declared.Pid.{Pid}
 use Rattle.mck_word.specs.declared.Req.{Req}
 use Rattle.mck_word.specs.declared.Tid.{Tid}
 use Rattle.pair_offers.specs.declared.seeking.Numbered.{Numbered}

@@ -50,7 +50,7 @@ pub trait Inspect {
         ensures value { option_map thread_number result ≡ key_from (pair self.now).node.threads from.0 }
         ensures below { IfSome result (λ t. t.0 < 2 ^ 32 - 1) };
 
-    /// The process of a live thread.
+    /// The process of the thread: 0 where no thread has the number.
     fn process_of_thread(&self, t: Tid) -> Pid
         ensures { result.0 ≡ (thread_of (pair self.now).node t.0).process };
 

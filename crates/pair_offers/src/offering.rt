@@ -3,7 +3,9 @@ ghost use Rattle.run_model.specs.Walks.{core_offer, kernel_offer, linux_offer, o
 ghost use Rattle.std.specs.Prelude.{◌≡◌};
 
 use crate::inspect::Inspect;
-use crate::seeking::{Numbered, Wanted, first_above, first_line, first_numbered, first_of, first_unpark, if_it_may};
+use crate::seeking::{
+    Numbered, Wanted, first_above, first_line, first_numbered, first_of, first_unpark, if_it_may,
+};
 use hybrid_model::Event;
 use mck_word::Pid;
 use run_model::Actor;

@@ -50,7 +50,9 @@ fn some_worker_offers<A: Inspect>(state: &A, p: Pid) -> bool
 fn process_offers<A: Inspect>(state: &A, p: Pid) -> bool
     ensures { result ≡ some_offers (A.pair state.now) (actors_of_process (A.pair state.now) p.0) }
 {
-    offers(state, Actor::Kernel(p)) || offers(state, Actor::Linux(p)) || some_worker_offers(state, p)
+    offers(state, Actor::Kernel(p))
+        || offers(state, Actor::Linux(p))
+        || some_worker_offers(state, p)
 }
 
 fn some_process_offers<A: Inspect>(state: &A, pids: &[Pid]) -> bool
@@ -69,7 +71,9 @@ fn some_process_offers<A: Inspect>(state: &A, pids: &[Pid]) -> bool
 fn some_actor_offers<A: Inspect>(state: &A) -> bool
     ensures { result ≡ some_offers (A.pair state.now) (actors (A.pair state.now)) }
 {
-    some_core_offers(state) || some_process_offers(state, state.processes()) || offers(state, Actor::Script)
+    some_core_offers(state)
+        || some_process_offers(state, state.processes())
+        || offers(state, Actor::Script)
 }
 
 fn ending_of_run<A: Inspect>(state: &A) -> Ending

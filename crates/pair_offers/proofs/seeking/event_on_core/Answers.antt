@@ -1,5 +1,4 @@
 use Rattle.hybrid_model.specs.Events.{may}
-use Rattle.hybrid_model.specs.Pairs.{Pair}
 use Rattle.hybrid_model.specs.declared.events.Event.{Event}
 use Rattle.pair_offers.proofs.First.{core-behind, core-first}
 use Rattle.pair_offers.proofs.seeking.event_on_core.Goals as goal

@@ -1,10 +1,8 @@
 use Rattle.hybrid_model.specs.Events.{may}
-use Rattle.hybrid_model.specs.declared.events.Event.{Event}
 use Rattle.hybrid_model.specs.declared.events.Event.TheVariants.{Script}
-use Rattle.kernel_model.specs.Nodes.{ScriptLine}
 use Rattle.pair_offers.proofs.First.{index-not, index-is, index-none, index-below}
 use Rattle.pair_offers.proofs.seeking.first_line.Goals as goal
-use Rattle.std.proofs.Common.{ap, arith, sym, ◌∙◌}
+use Rattle.std.proofs.Common.{arith, sym, ◌∙◌}
 use Rattle.std.specs.Prelude.{length, ◌<◌}
 
 pub returns-in-Some-if_it_may : goal.returns-in-Some-if_it_may

@@ -2,8 +2,8 @@ use Rattle.hybrid_model.specs.Events.{may}
 use Rattle.pair_offers.proofs.First.{below, below-all, below-none, below-split, found-behind, found-first}
 use Rattle.pair_offers.proofs.seeking.first_numbered.Goals as goal
 use Rattle.pair_offers.specs.Seeking.{event_of}
-use Rattle.std.proofs.Common.{ap, arith, subst, sym, ◌∙◌}
-use Rattle.std.specs.Prelude.{List, None, Option, Some, [], find, map, ℕ, ◌+◌, ◌<◌, ◌∷◌, ◌≡◌, ◌≤◌}
+use Rattle.std.proofs.Common.{ap, arith, sym, ◌∙◌}
+use Rattle.std.specs.Prelude.{List, None, Some, [], find, map, ℕ, ◌+◌, ◌<◌, ◌∷◌, ◌≡◌, ◌≤◌}
 
 pub loop-number-init : goal.loop-number-init
 loop-number-init g c = ap (λ (ns : List ℕ). find (may (g.A.Inspect.pair c.args.state.now)) (map (event_of c.args.what) ns)) (sym (below-all c.args.count))
