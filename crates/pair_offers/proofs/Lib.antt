@@ -1,0 +1,4 @@
+pub mod Above
+pub mod First
+pub mod Offered
+pub mod Ended
