@@ -50,8 +50,13 @@ fn a_small_image(rt: HostRuntime) {
     let arguments = one_argument(rt.alloc()).expect(&rt, "memory");
     let mut mem = FrameMem::new(rt.alloc(), 32).expect(&rt, "memory");
     let mut pool = FramePool::new(rt.alloc(), 32).expect(&rt, "memory");
-    let made: Result<Space<PageMap>, NoMemory> =
-        load_guest(rt.alloc(), &image, &arguments, &mut mem, &mut pool);
+    let made: Result<Space<PageMap>, NoMemory> = load_guest(
+        rt.alloc(),
+        &image,
+        &arguments,
+        &mut mem,
+        &mut pool,
+    );
     let guest = made.expect(&rt, "memory");
     assert_eq!(rt; pool.free(), 13);
     assert_eq!(rt; guest.table().get(17), Some((Frame(1), Rights(5))));
@@ -59,7 +64,13 @@ fn a_small_image(rt: HostRuntime) {
     assert_eq!(rt; &mem.page(Frame(0))[4091..], [0, 1, 2, 3, 4].as_slice());
     assert_eq!(rt; &mem.page(Frame(1))[..3], [5, 0, 0].as_slice());
     assert_eq!(rt; &mem.page(Frame(17))[0xf50..0xf52], [1, 0].as_slice());
-    assert_eq!(rt; &mem.page(Frame(17))[0xfee..0xff2], [97, 0, 0, 1].as_slice());
-    assert_eq!(rt; &mem.page(Frame(18))[..5], [0x93, 0x08, 0xb0, 0x08, 0x73].as_slice());
+    assert_eq!(rt;
+        &mem.page(Frame(17))[0xfee..0xff2],
+        [97, 0, 0, 1].as_slice()
+    );
+    assert_eq!(rt;
+        &mem.page(Frame(18))[..5],
+        [0x93, 0x08, 0xb0, 0x08, 0x73].as_slice()
+    );
     assert_eq!(rt; guest_regs(&image, &arguments).x[2], 0x3f_ffff_ef50);
 }
