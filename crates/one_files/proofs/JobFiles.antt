@@ -1,5 +1,5 @@
 -- A file that is made with its bytes.
-use Rattle.file_model.specs.Files.{Files, Inode, Name, made, set_bytes}
+use Rattle.file_model.specs.Files.{Files, Inode, Name}
 use Rattle.file_model.specs.Paths.{add_file}
 use Rattle.mck_word.specs.MapLaws.{at-put, same_rows}
 use Rattle.mck_word.specs.Maps.{Map, at, change, change_row, put}
@@ -29,5 +29,5 @@ add-last files here names rest name bytes m n x e f is maps next =
     (λ i. record files { nodes = maps i; next_node = next i })
     ∙ ap (λ (x : Inode). record files { nodes = put files.nodes files.next_node x; next_node = files.next_node + 1 }) is
     ∙ ap (λ (rows : Map Inode). record files { nodes = rows; next_node = files.next_node + 1 })
-        (sym (change-put files.nodes files.next_node (record { parent = here; name = Some name; directory = false; bytes = [] }) (λ (x : Inode). record x { bytes = bytes })))
+    (sym (change-put files.nodes files.next_node (record { parent = here; name = Some name; directory = false; bytes = [] }) (λ (x : Inode). record x { bytes = bytes })))
     ∙ ap (λ (ns : List Name). add_file here ns bytes files) (sym (e ∙ ap (λ (ns : List Name). name ∷ ns) f))

@@ -30,14 +30,18 @@ pub fn some_name(rows: &[(u64, Node)], directory: u64) -> bool
 fn before(rows: &[(u64, Node)], directory: u64, name: &[u8]) -> usize
     ensures { result ≡ before rows.now directory name.now }
 {
-    rows.iter().filter(|row| row.1.is_before(directory, name)).count()
+    rows.iter()
+        .filter(|row| row.1.is_before(directory, name))
+        .count()
 }
 
 /// How many names of a directory don't stand behind a name.
 fn up_to(rows: &[(u64, Node)], directory: u64, name: &[u8]) -> usize
     ensures { result ≡ up_to rows.now directory name.now }
 {
-    rows.iter().filter(|row| row.1.is_up_to(directory, name)).count()
+    rows.iter()
+        .filter(|row| row.1.is_up_to(directory, name))
+        .count()
 }
 
 /// Whether the k-th name of a directory in the order of bytes is that one.

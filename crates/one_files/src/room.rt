@@ -103,8 +103,11 @@ impl RowFiles {
     {
         let description = self.description_of(d);
         match description.target {
-            Target::OfNode(_) =>
-                end_of(MOST_FILE_BYTES, self.offset_of(description, at, moved), len),
+            Target::OfNode(_) => end_of(
+                MOST_FILE_BYTES,
+                self.offset_of(description, at, moved),
+                len,
+            ),
             Target::ReadEnd(_) => 0,
             Target::WriteEnd(pipe) => end_of(MOST_PIPE_BYTES, self.pipe_len_of(pipe), len),
             Target::OfConsole(guest) => end_of(MOST_CONSOLE_BYTES, self.output_len_of(guest), len),

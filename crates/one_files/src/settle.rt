@@ -51,7 +51,8 @@ pub fn is_open(descriptions: &Rows<OpenFile>, target: Target) -> bool
     ensures { result ≡ opens_to descriptions.now.map target }
 {
     let rows = descriptions.as_slice();
-    rows.iter().any(|row| is_same_target(row.1.get().target, target))
+    rows.iter()
+        .any(|row| is_same_target(row.1.get().target, target))
 }
 
 /// Whether the read end of a pipe is open.

@@ -83,7 +83,8 @@ impl FileStore for RowFiles {
     }
 
     fn make(&mut self, parent: u64, name: &[u8], directory: bool) {
-        self.nodes.add(Node::new(self.alloc, parent, name, directory));
+        self.nodes
+            .add(Node::new(self.alloc, parent, name, directory));
     }
 
     fn empty(&mut self, node: u64) {
@@ -192,7 +193,8 @@ impl FileStore for RowFiles {
     }
 
     fn write_file(&mut self, node: u64, offset: u64, from: &[u8]) {
-        self.nodes.write(node, offset as usize, from, &mut self.spare);
+        self.nodes
+            .write(node, offset as usize, from, &mut self.spare);
     }
 
     fn add_pipe(&mut self, pipe: u32, from: &[u8]) {
@@ -203,7 +205,9 @@ impl FileStore for RowFiles {
 
     fn add_output(&mut self, guest: u32, from: &[u8]) {
         if self.consoles.get(guest as u64).is_some() {
-            self.consoles.row_mut(guest as u64).add_output(from, &mut self.spare);
+            self.consoles
+                .row_mut(guest as u64)
+                .add_output(from, &mut self.spare);
         }
     }
 

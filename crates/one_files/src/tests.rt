@@ -48,7 +48,10 @@ fn a_file_is_written_and_unlinked(rt: HostRuntime) -> Result<(), Fail> {
     };
     assert_eq!(rt; step(&mut files, &unlink, &mut [47, 97])?, FileAns::Done(0));
     assert_eq!(rt; files.node_count(), 2);
-    assert_eq!(rt; step(&mut files, &FileOp::Close { fd: 0 }, &mut [])?, FileAns::Done(0));
+    assert_eq!(rt;
+        step(&mut files, &FileOp::Close { fd: 0 }, &mut [])?,
+        FileAns::Done(0)
+    );
     assert_eq!(rt; files.node_count(), 1);
     Ok(())
 }

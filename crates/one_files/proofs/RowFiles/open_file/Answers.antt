@@ -1,4 +1,4 @@
-use Rattle.std.proofs.Common.{◌≡◌, ◌≤◌, ◌+◌, ◌∙◌, ap, arith}
+use Rattle.std.proofs.Common.{◌+◌, ◌∙◌, ap, arith}
 use Rattle.mck_word.specs.Maps.{count}
 use Rattle.one_files.proofs.Counts.{count-put, count-row, one-less}
 use Rattle.one_files.proofs.RowFiles.open_file.Goals as goal
@@ -13,4 +13,4 @@ returns-clause-room c =
     let most = count-put c.args.self.now.descriptions.map c.first_free-d.result c.args.file in
     let same = ap count c.put.ensures.row in
     one-less c.args.self.now.descriptions.spare c.args.self.now.descriptors.spare (count c.args.self.now.descriptions.map) c.put.new.self.spare c.put-2.new.self.spare (count c.put.new.self.map)
-        c.put.ensures.takes c.put-2.ensures.takes (omega arith)
+    c.put.ensures.takes c.put-2.ensures.takes (omega arith)
