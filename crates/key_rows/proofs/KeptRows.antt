@@ -54,11 +54,11 @@ module _ {V : Type 0} (p : ℕ → V → Bool) where
       at_key : (q : ℕ) (e : ℕ × V) (es : List (ℕ × V)) → q ≡ e.0 → find nat_cmp q (passing es) ≡ None → find nat_cmp q (passing (e ∷ es)) ≡ kept_value q (find nat_cmp q (e ∷ es))
       at_key q e es same gone =
           rw (unsigned_tied q e.0 ∙ eq-eqb q e.0 same) (
-            subst (λ j. find nat_cmp q (cond (p e.0 e.1) (e ∷ passing es) (passing es)) ≡ cond (p j e.1) (Some e.1) None) (sym same) (
-              elim (p e.0 e.1) as (λ b. find nat_cmp q (cond b (e ∷ passing es) (passing es)) ≡ cond b (Some e.1) None) [
-                | true ↦ ap (λ b. cond b (Some e.1) (find nat_cmp q (passing es))) (unsigned_tied q e.0 ∙ eq-eqb q e.0 same)
-                | false ↦ gone
-              ]))
+          subst (λ j. find nat_cmp q (cond (p e.0 e.1) (e ∷ passing es) (passing es)) ≡ cond (p j e.1) (Some e.1) None) (sym same) (
+          elim (p e.0 e.1) as (λ b. find nat_cmp q (cond b (e ∷ passing es) (passing es)) ≡ cond b (Some e.1) None) [
+            | true ↦ ap (λ b. cond b (Some e.1) (find nat_cmp q (passing es))) (unsigned_tied q e.0 ∙ eq-eqb q e.0 same)
+            | false ↦ gone
+          ]))
 
       at_other : (q : ℕ) (e : ℕ × V) (es : List (ℕ × V)) → (q ≡ e.0 → ⊥) → find nat_cmp q (passing es) ≡ kept_value q (find nat_cmp q es) → find nat_cmp q (passing (e ∷ es)) ≡ kept_value q (find nat_cmp q (e ∷ es))
       at_other q e es other rest =

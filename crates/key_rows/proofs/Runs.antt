@@ -88,7 +88,7 @@ module _ {V : Type 0} where
         | inl here ↦
             let same : suc k + run (suc k) es ≡ k + suc (run (suc k) es) = omega arith in
             let past : member (k + suc (run (suc k) es)) (numbers (e ∷ es)) ≡ false =
-              rw (ne_eqb e.0 (k + suc (run (suc k) es)) (omega arith)) (ap (λ n. member n (numbers es)) (sym same) ∙ next-missing (suc k) es (tail-of e es s) (rises k e es s h)) in
+            rw (ne_eqb e.0 (k + suc (run (suc k) es)) (omega arith)) (ap (λ n. member n (numbers es)) (sym same) ∙ next-missing (suc k) es (tail-of e es s) (rises k e es s h)) in
             ap (λ b. member (k + cond b (suc (run (suc k) es)) 0) (numbers (e ∷ es))) (eq-eqb e.0 k here) ∙ past
         | inr o ↦
             let more : suc k ≤ e.0 = omega arith in
@@ -101,5 +101,5 @@ module _ {V : Type 0} where
   run-lowest es s =
       let add : (i : ℕ) → 0 + i ≡ i = λ i. omega arith in
       sym (lowest-is (numbers es) (run 0 es)
-          (λ i l. ap (λ n. member n (numbers es)) (sym (add i)) ∙ members-below 0 i es l)
-          (ap (λ n. member n (numbers es)) (sym (add (run 0 es))) ∙ next-missing 0 es s (from-zero es)))
+      (λ i l. ap (λ n. member n (numbers es)) (sym (add i)) ∙ members-below 0 i es l)
+      (ap (λ n. member n (numbers es)) (sym (add (run 0 es))) ∙ next-missing 0 es s (from-zero es)))
