@@ -1,7 +1,7 @@
 -- How many rows a map has after a change.
 use Rattle.mck_word.specs.MapLaws.{at-put}
 use Rattle.mck_word.specs.Maps.{Map, at, count, entries, no_rows, put}
-use Rattle.std.proofs.Common.{◌≡◌, ◌≤◌, ◌+◌, ◌-◌, ◌∙◌, ℕ, Bool, true, false, cond, Option, Some, None, ap, arith, length, refl, sym}
+use Rattle.std.proofs.Common.{◌≡◌, ◌≤◌, ◌+◌, ◌-◌, ◌∙◌, ℕ, Bool, true, false, cond, Option, Some, None, ap, arith, length, refl}
 use Rattle.std.proofs.lemmas.Bool.{eq-eqb}
 use Rattle.std.specs.Cmp.{nat_cmp_total}
 use Rattle.std.specs.FinMap as finmap

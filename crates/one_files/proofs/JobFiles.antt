@@ -1,5 +1,5 @@
 -- A file that is made with its bytes.
-use Rattle.file_model.specs.Files.{Files, Inode, Name, made, set_bytes}
+use Rattle.file_model.specs.Files.{Files, Inode, Name}
 use Rattle.file_model.specs.Paths.{add_file}
 use Rattle.mck_word.specs.MapLaws.{at-put, same_rows}
 use Rattle.mck_word.specs.Maps.{Map, at, change, change_row, put}

@@ -3,14 +3,13 @@ use Rattle.file_model.specs.Files.{Inode, Name}
 use Rattle.file_model.specs.Paths.{bytes_before, name_in}
 use Rattle.mck_word.specs.Lists.{sorted_by}
 use Rattle.one_files.proofs.Sorting.{get-within, kth, kth-found, length-sorted, passing}
-use Rattle.one_files.specs.Named.{before, is_kth, name_below, names_by_number, some_name, up_to}
+use Rattle.one_files.specs.Named.{is_kth, name_below, names_by_number, some_name}
 use Rattle.one_files.specs.Slotted.{passes}
-use Rattle.std.proofs.Common.{◌≡◌, ◌≤◌, ◌<◌, ◌+◌, ◌∙◌, ℕ, zero, suc, Bool, true, false, cond, not, List, [], ◌∷◌, Option, Some, None, ap, arith, length, refl, sym, subst}
+use Rattle.std.proofs.Common.{◌≡◌, ◌≤◌, ◌<◌, ◌+◌, ◌∙◌, ℕ, suc, Bool, true, false, cond, not, List, [], ◌∷◌, Option, Some, None, ap, arith, length, refl, sym}
 use Rattle.std.proofs.lemmas.Bool.{lt-ltb, true≢false}
 use Rattle.std.specs.Cmp.Lexicographic.{nat_list_cmp_total, slice_cmp}
 use Rattle.std.specs.FinMap.{nat_cmp-IsAntisymmetric, slice_cmp-IsAntisymmetric}
-use Rattle.std.specs.List.{cons_option, filter_map, list_any, slice_get}
-use Rattle.std.specs.Option.{IfSome}
+use Rattle.std.specs.List.{cons_option, filter_map, slice_get}
 use Rattle.std.specs.Ordering.{is_lt, nat_cmp, ordering_reverse}
 use Rattle.std.specs.Prelude.{find, fold, is_some, nat_le, nat_lt, ◌&&◌, ◌||◌}
 use Rattle.std.specs.declared.cmp.Ordering.TheVariants.{Equal, Greater, Less}

@@ -1,6 +1,6 @@
 -- Bytes that are filled up with zeros before others are put in.
 use Rattle.mck_word.specs.Lists.{spliced}
-use Rattle.std.proofs.Common.{◌≡◌, ◌+◌, ◌-◌, ◌≤◌, ◌<◌, ◌∙◌, ℕ, zero, suc, List, [], ◌∷◌, ◌++◌, ap, arith, length, refl, sym, append-nil}
+use Rattle.std.proofs.Common.{◌≡◌, ◌+◌, ◌-◌, ◌≤◌, ◌∙◌, ℕ, zero, suc, List, [], ◌∷◌, ◌++◌, ap, arith, length, refl, sym, append-nil}
 use Rattle.std.specs.Prelude.{drop, replicate, take}
 use Rattle.std.proofs.lemmas.List.{length-append}
 

@@ -1,5 +1,4 @@
 -- The sum of what is left to go through.
-use Rattle.one_files.specs.declared.node.Node.{Node}
 use Rattle.std.proofs.Common.{◌≡◌, ◌≤◌, ◌+◌, ◌∙◌, ℕ, zero, suc, List, [], ◌∷◌, ap, arith, length, refl, sym}
 use Rattle.std.specs.Prelude.{drop, min, sum_by}
 

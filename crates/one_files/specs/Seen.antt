@@ -4,7 +4,7 @@ use Rattle.file_model.specs.Files.{Files}
 use Rattle.file_model.specs.declared.descriptions.Target.{Target}
 use Rattle.mck_word.specs.Maps.{count}
 use Rattle.one_files.specs.declared.RowFiles.{RowFiles}
-use Rattle.std.specs.Prelude.{◌+◌, ◌-◌, ◌^◌, ◌≤◌, min, ℕ}
+use Rattle.std.specs.Prelude.{◌-◌, ◌^◌, ◌≤◌, min, ℕ}
 use Rattle.std.specs.Vec.{vec_capacity}
 
 -- its files

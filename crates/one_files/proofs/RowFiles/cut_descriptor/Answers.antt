@@ -1,5 +1,4 @@
-use Rattle.std.proofs.Common.{ap}
-use Rattle.one_files.proofs.Rows.{cut-row, has-row}
+use Rattle.one_files.proofs.Rows.{has-row}
 use Rattle.one_files.proofs.RowFiles.cut_descriptor.Goals as goal
 
 pub row_mut-requires : goal.row_mut-requires

@@ -1,4 +1,4 @@
-use Rattle.std.proofs.Common.{◌≡◌, ◌∙◌, ap, sym}
+use Rattle.std.proofs.Common.{◌∙◌, ap, sym}
 use Rattle.mck_word.specs.Maps.{at}
 use Rattle.one_files.proofs.Rows.{lent-none}
 use Rattle.one_files.proofs.Slots.{cut-absent}

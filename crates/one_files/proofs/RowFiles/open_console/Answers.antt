@@ -1,4 +1,4 @@
-use Rattle.std.proofs.Common.{◌≡◌, ◌<◌, arith}
+use Rattle.std.proofs.Common.{arith}
 use Rattle.one_files.proofs.Counts.{count-no-row}
 use Rattle.one_files.proofs.RowFiles.open_console.Goals as goal
 

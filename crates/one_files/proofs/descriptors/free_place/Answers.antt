@@ -1,4 +1,4 @@
-use Rattle.std.proofs.Common.{◌≡◌, ◌≤◌, ◌∙◌, arith, length, sym}
+use Rattle.std.proofs.Common.{◌≡◌, ◌∙◌, arith, sym}
 use Rattle.std.specs.Prelude.{None, slice_index_or}
 use Rattle.one_files.proofs.Slots.{lowest-slot, none-there_is, past-slots}
 use Rattle.one_files.proofs.descriptors.free_place.Goals as goal

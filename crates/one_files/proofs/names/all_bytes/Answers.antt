@@ -1,4 +1,4 @@
-use Rattle.std.proofs.Common.{◌≤◌, ◌-◌, ◌^◌, arith, length}
+use Rattle.std.proofs.Common.{◌-◌, ◌^◌, arith, length}
 use Rattle.one_files.proofs.Totals.{total-end}
 use Rattle.one_files.proofs.names.all_bytes.Goals as goal
 

@@ -1,4 +1,4 @@
-use Rattle.std.proofs.Common.{◌≡◌, ◌<◌, arith, length, rules}
+use Rattle.std.proofs.Common.{rules}
 use Rattle.one_files.proofs.Slots.{lowest-below, slots-more, slots-new}
 use Rattle.one_files.proofs.descriptors.Descriptors.add.Goals as goal
 

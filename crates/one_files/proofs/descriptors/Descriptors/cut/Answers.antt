@@ -1,6 +1,6 @@
 use Rattle.one_files.proofs.Slots.{cut-none}
 use Rattle.std.proofs.lemmas.Grind.{common_steps}
-use Rattle.std.proofs.Common.{arith, ◌≤◌, length, rules}
+use Rattle.std.proofs.Common.{arith}
 use Rattle.one_files.proofs.descriptors.Descriptors.cut.Goals as goal
 
 pub returns-else-is_some : goal.returns-else-is_some

@@ -1,4 +1,4 @@
-use Rattle.std.proofs.Common.{◌≡◌, ◌∙◌, ap, ◌==◌}
+use Rattle.std.proofs.Common.{◌∙◌, ap, ◌==◌}
 use Rattle.mck_word.specs.Maps.{some_row}
 use Rattle.one_files.proofs.Slots.{some-slots}
 use Rattle.one_files.proofs.descriptors.Descriptors.names.Goals as goal

@@ -1,4 +1,4 @@
-use Rattle.std.proofs.Common.{◌≡◌, ◌≤◌, ap, arith}
+use Rattle.std.proofs.Common.{ap, arith}
 use Rattle.mck_word.specs.Maps.{count}
 use Rattle.one_files.proofs.Counts.{count-put}
 use Rattle.one_files.proofs.nodes.Nodes.add.Goals as goal

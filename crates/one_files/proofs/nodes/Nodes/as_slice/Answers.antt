@@ -1,4 +1,4 @@
-use Rattle.std.proofs.Common.{◌≡◌, ◌≤◌, ap, arith, length}
+use Rattle.std.proofs.Common.{ap, arith, length}
 use Rattle.one_files.proofs.Counts.{count-entries}
 use Rattle.one_files.proofs.nodes.Nodes.as_slice.Goals as goal
 

@@ -1,4 +1,4 @@
-use Rattle.std.proofs.Common.{◌≡◌, ◌≤◌, ap, arith}
+use Rattle.std.proofs.Common.{ap, arith}
 use Rattle.file_model.specs.Files.{Inode}
 use Rattle.mck_word.specs.Maps.{count}
 use Rattle.one_files.proofs.Counts.{count-none, count-put}

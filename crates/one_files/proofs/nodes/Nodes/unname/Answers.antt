@@ -1,4 +1,4 @@
-use Rattle.std.proofs.Common.{◌≡◌, ◌≤◌, arith}
+use Rattle.std.proofs.Common.{arith}
 use Rattle.one_files.proofs.Counts.{count-there}
 use Rattle.one_files.proofs.nodes.Nodes.unname.Goals as goal
 

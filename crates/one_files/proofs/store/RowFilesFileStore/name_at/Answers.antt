@@ -1,11 +1,9 @@
-use Rattle.std.proofs.Common.{◌≡◌, ◌≤◌, ◌<◌, ◌∙◌, Option, Some, None, ap, length, subst, sym, true, refl}
-use Rattle.file_model.specs.Files.{Name}
+use Rattle.std.proofs.Common.{◌<◌, ◌∙◌, ap}
 use Rattle.mck_word.specs.Maps.{entries}
 use Rattle.one_files.proofs.KthNames.{kth-few, kth-name}
 use Rattle.one_files.proofs.Rows.{if-lent}
 use Rattle.one_files.specs.Named.{is_kth, names_by_number}
-use Rattle.std.specs.Option.{IfSome, option_copied}
-use Rattle.std.specs.Prelude.{find, is_some}
+use Rattle.std.specs.Prelude.{find}
 use Rattle.one_files.proofs.store.RowFilesFileStore.name_at.Goals as goal
 
 pub returns-clause-name : goal.returns-clause-name
