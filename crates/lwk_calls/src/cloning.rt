@@ -69,20 +69,10 @@ fn clones<T: PageTable>(
     ensures sleepers { node.old.sleepers.spare ≤ node.new.sleepers.spare }
 {
     let number = node.clone_thread(t, args);
-    tells_number(
-        space,
-        mem,
-        has_bit(PARENT_SETTID, args[0]),
-        args[2],
-        number.0,
-    );
-    tells_number(
-        space,
-        mem,
-        has_bit(CHILD_SETTID, args[0]),
-        args[4],
-        number.0,
-    );
+    let parent_asks = has_bit(PARENT_SETTID, args[0]);
+    tells_number(space, mem, parent_asks, args[2], number.0);
+    let child_asks = has_bit(CHILD_SETTID, args[0]);
+    tells_number(space, mem, child_asks, args[4], number.0);
     node.answered(t, number.0 as i64);
 }
 
