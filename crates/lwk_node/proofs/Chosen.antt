@@ -1,9 +1,9 @@
 -- The signal that is chosen is one of 1 to 64.
-use Rattle.kernel_model.specs.SignalSets.{has, lowest, minus, union}
+use Rattle.kernel_model.specs.SignalSets.{has, minus, union}
 use Rattle.kernel_model.specs.Signals.{next_of_sets}
 use Rattle.mck_word.specs.Lists.{count_from}
 use Rattle.std.proofs.Common.{arith, sym}
-use Rattle.std.specs.Prelude.{Bool, MatchOption, List, None, Option, Some, [], cond, false, find, suc, true, zero, ℕ, ◌+◌, ◌∷◌, ◌≡◌, ◌≤◌}
+use Rattle.std.specs.Prelude.{Bool, MatchOption, None, Option, Some, cond, false, find, suc, true, zero, ℕ, ◌+◌, ◌≡◌, ◌≤◌}
 
 found-between : (test : ℕ → Bool) (from n s : ℕ) → find test (count_from from n) ≡ Some s → (from ≤ s) × (s + 1 ≤ from + n)
 found-between test from zero s e = absurd (grind (arith, e))

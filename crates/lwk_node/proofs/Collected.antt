@@ -6,7 +6,7 @@ use Rattle.lwk_node.proofs.Rows.{shown_thread}
 use Rattle.lwk_node.specs.Shown.{node_of}
 use Rattle.lwk_node.specs.declared.tables.Node.{Node}
 use Rattle.lwk_threads.specs.Shown.{shown_threads}
-use Rattle.lwk_threads.specs.Threads.{Spared, Threads}
+use Rattle.lwk_threads.specs.Threads.{Spared}
 use Rattle.lwk_threads.specs.declared.Thread.{Thread}
 use Rattle.mck_word.specs.EachLaws.{at-each}
 use Rattle.mck_word.specs.MapLaws.{at-collect, same_rows}

@@ -11,7 +11,7 @@ use Rattle.lwk_node.specs.Shown.{node_of, shown_line, shown_process}
 use Rattle.lwk_node.specs.declared.tables.Node.{Node}
 use Rattle.lwk_node.specs.declared.script_lines.ScriptLine.{ScriptLine}
 use Rattle.std.proofs.Common.{ap, not, refl, sym, ◌∙◌}
-use Rattle.std.specs.Prelude.{Bool, List, None, Option, Some, [], cond, false, filter, find, map, option_map, true, ℕ, ◌==◌, ◌∷◌, ◌≡◌}
+use Rattle.std.specs.Prelude.{Bool, List, Some, [], cond, false, filter, find, map, option_map, true, ℕ, ◌==◌, ◌∷◌, ◌≡◌}
 
 found-shown : (k : ℕ) (xs : List ScriptLine) → find (line_is k) (map shown_line xs) ≡ option_map shown_line (find (λ (x : ScriptLine). x.index == k) xs)
 found-shown k [] = refl

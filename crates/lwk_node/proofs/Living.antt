@@ -1,6 +1,6 @@
 -- How many threads of a process a node shows, and its files.
 use Rattle.file_model.specs.Files.{Files}
-use Rattle.kernel_model.specs.Nodes.{Sleeper, Thread as KernelThread, threads_of}
+use Rattle.kernel_model.specs.Nodes.{Thread as KernelThread, threads_of}
 use Rattle.kernel_model.specs.declared.Does.{Does}
 use Rattle.lwk_node.proofs.Rows.{shown_thread}
 use Rattle.lwk_node.specs.Shown.{node_of}

@@ -3,7 +3,7 @@ use Rattle.file_model.specs.Files.{Files}
 use Rattle.futex_queues.specs.Sleep.{Queue}
 use Rattle.key_rows.specs.Table.{Table}
 use Rattle.kernel_model.specs.CloneCalls.{cloned_thread, with_thread as with_next}
-use Rattle.kernel_model.specs.Nodes.{Node as KernelNode, Process as KernelProcess, Sleeper, Thread as KernelThread, has_thread, no_thread, thread_of, threads_of}
+use Rattle.kernel_model.specs.Nodes.{Process as KernelProcess, Sleeper, Thread as KernelThread, has_thread, no_thread, thread_of, threads_of}
 use Rattle.kernel_model.specs.declared.Does.TheVariants.{Ready}
 use Rattle.kernel_model.specs.declared.Does.{Does}
 use Rattle.lwk_node.proofs.Living.{live_shown}
@@ -13,7 +13,7 @@ use Rattle.lwk_node.specs.declared.process_rows.Process.{Process}
 use Rattle.lwk_node.specs.declared.tables.Node.{Node}
 use Rattle.lwk_threads.proofs.Showing.{cloned-shown}
 use Rattle.lwk_threads.specs.Shown.{shown_threads}
-use Rattle.lwk_threads.specs.Threads.{Spared, Threads, cloned, live_threads, peers_of, with_clone, with_thread}
+use Rattle.lwk_threads.specs.Threads.{Spared, Threads, cloned, peers_of, with_clone, with_thread}
 use Rattle.lwk_threads.specs.declared.Thread.{Thread}
 use Rattle.mck_word.specs.EachLaws.{each-put}
 use Rattle.mck_word.specs.Maps.{Map, at, each, put}

@@ -18,7 +18,7 @@ use Rattle.mck_word.specs.MapLaws.{at-cut, same_rows}
 use Rattle.futex_queues.specs.Sleep.{Queue}
 use Rattle.std.proofs.lemmas.Bool.Decides.{nat_tests}
 use Rattle.std.proofs.Common.{◌∙◌, ap, arith, refl, sym}
-use Rattle.std.specs.Prelude.{Bool, List, None, Option, Some, [], cond, false, map as map_list, option_map, sum_by, true, ℕ, ◌+◌, ◌==◌, ◌∷◌, ◌≡◌}
+use Rattle.std.specs.Prelude.{Bool, List, None, Some, [], cond, false, map as map_list, option_map, sum_by, true, ℕ, ◌+◌, ◌==◌, ◌∷◌, ◌≡◌}
 
 abbrev pub shown_thread : Thread Does → KernelThread
 shown_thread x = shown (λ (d : Does). d) x

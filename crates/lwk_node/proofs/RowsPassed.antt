@@ -4,8 +4,8 @@ use Rattle.kernel_model.specs.declared.Does.{Does}
 use Rattle.lwk_node.specs.Passes.{IsPassed, passed}
 use Rattle.lwk_threads.specs.Threads.{Spared}
 use Rattle.lwk_threads.specs.declared.Thread.{Thread}
-use Rattle.mck_word.specs.MapLaws.{at-collect, at-cut, at-put, at-set_or_cut, same_rows}
-use Rattle.mck_word.specs.Maps.{Map, and_then, at, collect, cut, put, set_or_cut}
+use Rattle.mck_word.specs.MapLaws.{at-collect, at-put, at-set_or_cut, same_rows}
+use Rattle.mck_word.specs.Maps.{Map, and_then, at, collect, put}
 use Rattle.page_map.specs.NextLaws.{IsNext, next-none, next-some}
 use Rattle.std.proofs.Common.{ap, arith, inl, inr, refl, sym, ◌∙◌}
 use Rattle.std.proofs.lemmas.Bool.Decides.{nat_tests}

@@ -1,14 +1,13 @@
 -- What the tables of a node show, in the words of the definitions.
 use Rattle.file_model.specs.Files.{Files}
-use Rattle.key_rows.specs.Table.{Table}
 use Rattle.kernel_model.specs.Nodes.{Node as KernelNode, Process as KernelProcess, ScriptLine as KernelLine}
 use Rattle.kernel_model.specs.declared.Does.{Does}
 use Rattle.lwk_node.specs.declared.process_rows.Process.{Process}
 use Rattle.lwk_node.specs.declared.tables.Node.{Node}
 use Rattle.lwk_node.specs.declared.script_lines.ScriptLine.{ScriptLine}
 use Rattle.lwk_threads.specs.Shown.{shown_threads}
-use Rattle.mck_word.specs.Maps.{Map, each}
-use Rattle.std.specs.Prelude.{List, map, ℕ}
+use Rattle.mck_word.specs.Maps.{each}
+use Rattle.std.specs.Prelude.{map}
 
 abbrev pub shown_process : Process → KernelProcess
 shown_process x = record {

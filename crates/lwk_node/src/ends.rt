@@ -1,5 +1,5 @@
 // How threads and processes end.
-ghost use Rattle.std.specs.Prelude.{◌≡◌, ◌≤◌, length, Some};
+ghost use Rattle.std.specs.Prelude.{◌≡◌, length, Some};
 ghost use Rattle.file_model.specs.Files.{Files, close_all};
 ghost use Rattle.kernel_model.specs.LocalCalls.{code_of, dies_without_threads, note_first_code};
 ghost use Rattle.kernel_model.specs.Nodes.{Thread as KernelThread, change_process, dies, set_does, thread_of, threads_of};

@@ -23,3 +23,6 @@ mod waits;
 pub use process_rows::{Process, Processes};
 pub use script_lines::ScriptLine;
 pub use tables::Node;
+
+#[cfg(test)]
+mod tests;

@@ -181,16 +181,6 @@ impl Processes {
         }
     }
 
-    /// Gives the process another pending set.
-    pub fn set_pending(&mut self, p: Pid, v: SigSet)
-        ensures { self.new ≡ record self.old { map = change self.old.map p.0 (λ x. record x { pending = v }) } }
-    {
-        if self.rows.get(p.0 as u64).is_some() {
-            let row = self.rows.row_mut(p.0 as u64);
-            row.pending = v;
-        }
-    }
-
     /// A signal is pending for the process.
     pub fn pend(&mut self, p: Pid, signal: u32)
         requires least { 1 ≤ signal }

@@ -1,5 +1,5 @@
 // Signals that are generated, taken and raised, and the actions of a process.
-ghost use Rattle.std.specs.Prelude.{◌≡◌, ◌≤◌, Some, false};
+ghost use Rattle.std.specs.Prelude.{◌≡◌, ◌≤◌, Some};
 ghost use Rattle.file_model.specs.Errno.{EINTR, EPIPE};
 ghost use Rattle.file_model.specs.Files.{Files};
 ghost use Rattle.kernel_model.specs.Nodes.{change_process, change_thread, dies, process_of};

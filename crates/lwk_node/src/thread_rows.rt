@@ -69,15 +69,6 @@ pub fn set_mask(threads: &mut ThreadTable<Does>, t: Tid, mask: SigSet)
     }
 }
 
-/// The thread has another pending set.
-pub fn set_pending(threads: &mut ThreadTable<Does>, t: Tid, pending: SigSet)
-    ensures { threads.new ≡ record threads.old { threads = changed t.0 (λ x. record x { pending = pending }) threads.old.threads } }
-{
-    if threads.thread(t).is_some() {
-        threads.set_pending(t, pending);
-    }
-}
-
 /// The thread has another address to clear.
 pub fn set_clear(threads: &mut ThreadTable<Does>, t: Tid, address: u64)
     ensures { threads.new ≡ record threads.old { threads = changed t.0 (λ x. record x { clear = address }) threads.old.threads } }

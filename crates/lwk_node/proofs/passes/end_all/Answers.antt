@@ -1,5 +1,5 @@
 use Rattle.lwk_node.proofs.RowsPassed.{all_passed, one_passed}
-use Rattle.lwk_node.specs.Passes.{unless_of, without_pending}
+use Rattle.lwk_node.specs.Passes.{unless_of}
 use Rattle.page_map.specs.NextLaws.{next-some}
 use Rattle.std.proofs.Common.{ap, arith, sym, ◌≡◌, ◌≤◌}
 use Rattle.lwk_node.proofs.passes.end_all.Goals as goal

@@ -1,4 +1,4 @@
-use Rattle.lwk_node.specs.Passes.{IsPassed, unless_of, without_pending}
+use Rattle.lwk_node.specs.Passes.{IsPassed, without_pending}
 use Rattle.std.proofs.Common.{◌-◌}
 use Rattle.lwk_node.proofs.passes.unpend_all.Given as goal
 

@@ -1,4 +1,4 @@
-use Rattle.std.proofs.Common.{ap, arith, subst, ℕ, ◌≡◌, ◌≤◌}
+use Rattle.std.proofs.Common.{ap, arith, subst, ◌≡◌}
 use Rattle.lwk_threads.specs.Threads.{Spared, Threads, live_threads}
 use Rattle.lwk_threads.proofs.ThreadTable.fresh.Goals as goal
 

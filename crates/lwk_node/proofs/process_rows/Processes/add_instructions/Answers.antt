@@ -2,7 +2,7 @@ use Rattle.key_rows.specs.Table.{Table}
 use Rattle.lwk_node.specs.Totals.{instructions_in}
 use Rattle.lwk_node.specs.declared.process_rows.Process.{Process}
 use Rattle.lwk_node.proofs.Sums.{IsProcesses-grown, within}
-use Rattle.std.proofs.Common.{ap, arith, refl, ◌+◌, ◌∙◌}
+use Rattle.std.proofs.Common.{ap, arith, refl}
 use Rattle.lwk_node.proofs.process_rows.Processes.add_instructions.Goals as goal
 
 pub overflow_add-row : goal.overflow_add-row

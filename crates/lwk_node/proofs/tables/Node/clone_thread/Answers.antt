@@ -2,7 +2,7 @@ use Rattle.file_model.specs.Files.{root_only}
 use Rattle.lwk_node.proofs.Made.{clone_put, lives_shown, peers_shown}
 use Rattle.lwk_node.proofs.Rows.{next_is}
 use Rattle.kernel_model.specs.Nodes.{most_threads}
-use Rattle.std.proofs.Common.{subst, sym, true, ◌-◌, ◌<◌, ◌^◌, ◌∙◌, ◌≡◌}
+use Rattle.std.proofs.Common.{subst, sym, ◌-◌, ◌<◌, ◌^◌, ◌∙◌}
 use Rattle.lwk_node.proofs.tables.Node.clone_thread.Goals as goal
 
 pub clone_thread-requires-clause-lives : goal.clone_thread-requires-clause-lives

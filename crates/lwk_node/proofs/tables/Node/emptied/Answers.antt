@@ -1,6 +1,6 @@
 use Rattle.file_model.specs.Files.{close_all}
 use Rattle.futex_queues.specs.Sleep.{is_of}
-use Rattle.kernel_model.specs.Nodes.{Node as KernelNode, Sleeper, Thread as KernelThread}
+use Rattle.kernel_model.specs.Nodes.{Node as KernelNode, Thread as KernelThread}
 use Rattle.kernel_model.specs.declared.Does.{Does}
 use Rattle.lwk_node.proofs.Collected.{threads_collected}
 use Rattle.lwk_node.proofs.Living.{files_are, files_set}
@@ -10,7 +10,7 @@ use Rattle.lwk_node.specs.Shown.{node_of}
 use Rattle.lwk_node.specs.Steps.{emptied}
 use Rattle.lwk_threads.specs.declared.Thread.{Thread}
 use Rattle.mck_word.specs.Lists.{without}
-use Rattle.std.proofs.Common.{ap, Bool, None, Option, Some, cond, false, refl, sym, true, ℕ, ◌==◌, ◌≡◌, ◌∙◌}
+use Rattle.std.proofs.Common.{ap, Bool, None, Some, cond, false, refl, sym, true, ℕ, ◌==◌, ◌≡◌, ◌∙◌}
 use Rattle.std.specs.Prelude.{option_map}
 use Rattle.lwk_node.proofs.tables.Node.emptied.Goals as goal
 

@@ -1,6 +1,6 @@
 use Rattle.file_model.specs.Files.{root_only}
 use Rattle.futex_queues.specs.Sleep.{Queue, is_thread, waiters}
-use Rattle.kernel_model.specs.Nodes.{Node as KernelNode, Sleeper, most_threads, set_does, thread_of}
+use Rattle.kernel_model.specs.Nodes.{Node as KernelNode, Sleeper, most_threads, set_does}
 use Rattle.kernel_model.specs.declared.Does.TheVariants.{Asleep}
 use Rattle.lwk_node.proofs.Rows.{sleepers_are, sleepers_shown}
 use Rattle.lwk_node.specs.Shown.{node_of}

@@ -6,7 +6,7 @@ use Rattle.lwk_node.proofs.Made.{lives_shown, thread_is}
 use Rattle.lwk_node.proofs.Rows.{next_is}
 use Rattle.lwk_node.specs.Passes.{begun}
 use Rattle.lwk_node.specs.Shown.{node_of}
-use Rattle.std.proofs.Common.{ap, arith, false, refl, subst, sym, ◌-◌, ◌<◌, ◌^◌, ◌∙◌, ◌≡◌}
+use Rattle.std.proofs.Common.{ap, arith, false, refl, subst, sym, ◌-◌, ◌<◌, ◌^◌, ◌∙◌}
 use Rattle.std.proofs.lemmas.Bool.{true≢false}
 use Rattle.std.specs.Option.{option_copied}
 use Rattle.std.specs.Prelude.{is_some}

@@ -1,7 +1,4 @@
-use Rattle.kernel_model.specs.LocalCalls.{is_waiter}
-use Rattle.kernel_model.specs.Nodes.{Sleeper}
 use Rattle.lwk_node.proofs.Rows.{sleepers_are, sleepers_shown}
-use Rattle.lwk_node.specs.Shown.{node_of}
 use Rattle.futex_queues.specs.Sleep.{left, thread_of, waiters}
 use Rattle.std.proofs.Common.{ap, length, map, sym, take, ◌∙◌}
 use Rattle.std.specs.Prelude.{min}

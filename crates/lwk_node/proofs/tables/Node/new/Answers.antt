@@ -1,6 +1,6 @@
 use Rattle.futex_queues.specs.Sleep.{Queue}
 use Rattle.key_rows.specs.Table.{Table}
-use Rattle.kernel_model.specs.Nodes.{Process as KernelProcess, ScriptLine as KernelLine, Sleeper, Thread as KernelThread}
+use Rattle.kernel_model.specs.Nodes.{Process as KernelProcess, Thread as KernelThread}
 use Rattle.kernel_model.specs.declared.Does.{Does}
 use Rattle.lwk_node.proofs.Rows.{shown_thread}
 use Rattle.lwk_node.specs.Shown.{node_of, shown_line, shown_process}
@@ -8,8 +8,8 @@ use Rattle.lwk_node.specs.declared.process_rows.Process.{Process}
 use Rattle.lwk_node.specs.declared.script_lines.ScriptLine.{ScriptLine}
 use Rattle.lwk_threads.specs.Threads.{Spared}
 use Rattle.mck_word.specs.EachLaws.{each-none}
-use Rattle.mck_word.specs.Maps.{Map, each, no_rows}
-use Rattle.std.proofs.Common.{ap, List, [], map, ℕ, ◌∙◌, ◌≡◌}
+use Rattle.mck_word.specs.Maps.{each, no_rows}
+use Rattle.std.proofs.Common.{ap, List, [], map, ◌∙◌, ◌≡◌}
 use Rattle.lwk_node.proofs.tables.Node.new.Goals as goal
 
 pub returns : goal.returns

@@ -1,9 +1,8 @@
 use Rattle.kernel_model.specs.Nodes.{Node as KernelNode, Thread as KernelThread, change_thread}
-use Rattle.kernel_model.specs.Signals.{handler_mask, handler_regs}
 use Rattle.kernel_model.specs.declared.Does.TheVariants.{Ready}
 use Rattle.lwk_node.proofs.Twice.{thread_twice}
 use Rattle.lwk_node.specs.Shown.{node_of}
-use Rattle.std.proofs.Common.{ap, false, ◌∙◌}
+use Rattle.std.proofs.Common.{ap, ◌∙◌}
 use Rattle.lwk_node.proofs.tables.Node.returns_from_handler.Goals as goal
 
 pub returns-clause-node : goal.returns-clause-node

@@ -1,9 +1,6 @@
-use Rattle.kernel_model.specs.Nodes.{Thread as KernelThread, set_a0, set_pc}
-use Rattle.kernel_model.specs.SignalSets.{with_signal, without_signal}
-use Rattle.kernel_model.specs.declared.Does.TheVariants.{Ready}
+use Rattle.kernel_model.specs.Nodes.{Thread as KernelThread}
 use Rattle.lwk_node.proofs.Rows.{thread_changed}
-use Rattle.mck_word.specs.Words.{word_of}
-use Rattle.std.proofs.Common.{false, refl, true, ◌+◌, ◌-◌, ◌^◌}
+use Rattle.std.proofs.Common.{refl}
 use Rattle.lwk_node.proofs.tables.Node.set_mask.Goals as goal
 
 pub returns-clause-node : goal.returns-clause-node

@@ -1,10 +1,6 @@
-use Rattle.kernel_model.specs.LocalCalls.{code_of}
-use Rattle.kernel_model.specs.Nodes.{Process as KernelProcess, dies, dies_from}
-use Rattle.kernel_model.specs.SignalSets.{with_signal, without_signal}
 use Rattle.kernel_model.specs.Signals.{set_action}
-use Rattle.kernel_model.specs.Traps.{life_ended}
 use Rattle.lwk_node.proofs.Rows.{process_changed}
-use Rattle.std.proofs.Common.{Some, refl, true, ◌+◌}
+use Rattle.std.proofs.Common.{refl}
 use Rattle.lwk_node.proofs.tables.Node.with_action.Goals as goal
 
 pub returns-clause-node : goal.returns-clause-node
