@@ -18,13 +18,15 @@ use page_map::PageTable;
 
 const MOST_THREADS: u32 = 16;
 
+// The flags that have to stand, SYSVSEM, SETTLS, PARENT_SETTID, CHILD_CLEARTID, one that is ignored, and CHILD_SETTID.
 const KNOWN_FLAGS: u64 = 0x17d_0f00;
 
+// Bits of the flags.
 const PARENT_SETTID: u32 = 20;
 
 const CHILD_SETTID: u32 = 24;
 
-/// Whether the flags are those of a clone that makes a thread: what a thread shares stands, and nothing unknown.
+/// Whether the flags are those of a clone that makes a thread: VM, FS, FILES, SIGHAND and THREAD stand, and nothing unknown.
 fn are_clone_flags(flags: u64) -> bool
     ensures { result ≡ are_clone_flags flags }
 {
