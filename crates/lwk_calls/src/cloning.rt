@@ -18,13 +18,15 @@ use page_map::PageTable;
 
 const MOST_THREADS: u32 = 16;
 
+// The flags that have to stand, SYSVSEM, SETTLS, PARENT_SETTID, CHILD_CLEARTID, one that is ignored, and CHILD_SETTID.
 const KNOWN_FLAGS: u64 = 0x17d_0f00;
 
+// Bits of the flags.
 const PARENT_SETTID: u32 = 20;
 
 const CHILD_SETTID: u32 = 24;
 
-/// Whether the flags are those of a clone that makes a thread: what a thread shares stands, and nothing unknown.
+/// Whether the flags are those of a clone that makes a thread: VM, FS, FILES, SIGHAND and THREAD stand, and nothing unknown.
 fn are_clone_flags(flags: u64) -> bool
     ensures { result ≡ are_clone_flags flags }
 {
@@ -69,20 +71,10 @@ fn clones<T: PageTable>(
     ensures sleepers { node.old.sleepers.spare ≤ node.new.sleepers.spare }
 {
     let number = node.clone_thread(t, args);
-    tells_number(
-        space,
-        mem,
-        has_bit(PARENT_SETTID, args[0]),
-        args[2],
-        number.0,
-    );
-    tells_number(
-        space,
-        mem,
-        has_bit(CHILD_SETTID, args[0]),
-        args[4],
-        number.0,
-    );
+    let parent_asks = has_bit(PARENT_SETTID, args[0]);
+    tells_number(space, mem, parent_asks, args[2], number.0);
+    let child_asks = has_bit(CHILD_SETTID, args[0]);
+    tells_number(space, mem, child_asks, args[4], number.0);
     node.answered(t, number.0 as i64);
 }
 

@@ -1,9 +1,9 @@
 //! The local calls of a thread, on the tables of its node, its process's space and the frames.
 //!
 //! Promises: each call is the word of its name in kernel_model's specs (LocalCalls, CloneCalls, Calls), as `Did` of lwk_views says it:
-//! the node, the answer and the stores are the word's. No call takes memory or fails; where one adds a thread or a sleeper, it asks
-//! for room, and `room` says what is left. What coherence gives the caller stands as a condition where it is needed. The calls on
-//! signals, and a clone that makes a process, are made elsewhere.
+//! the node, the answer and the stores are the word's. No call takes memory or fails: clone and futex ask for room for one thread or one
+//! sleeper, the others lessen no room. What coherence gives the caller (the thread lives, it sleeps nowhere, fewer than sixteen sleep
+//! at an address) stands as a condition where it is needed. The calls on signals, and a clone that makes a process, are made elsewhere.
 #![tactic(auto)]
 
 mod answering;
@@ -19,3 +19,30 @@ pub use endings::{exits, exits_group};
 pub use futexes::futex;
 pub use own::{answers_zero, getpid, getppid, gettid, sets_clear_address, sets_robust_list};
 pub use waiting::{wait4, waited};
+
+#[cfg(test)]
+mod tests {
+    use super::*;
+    use lwk_node::Node;
+    use mck_flags::SigSet;
+    use mck_word::{Pid, Regs, Tid};
+
+    #[test]
+    fn a_thread_tells_its_numbers(rt: HostRuntime) {
+        let mut node = Node::new(rt.alloc(), 4, 100);
+        let has_room = node.reserve_thread().is_ok();
+        assert!(rt; has_room);
+        let regs = Regs { pc: 64, x: [0; 32] };
+        node.begin_thread(Pid(1), Tid(2), regs, SigSet(0), 0);
+        getpid(&mut node, Tid(2));
+        assert_eq!(rt; node.regs(Tid(2)).x[10], 1);
+        gettid(&mut node, Tid(2));
+        assert_eq!(rt; node.regs(Tid(2)).x[10], 2);
+        getppid(&mut node, Tid(2));
+        assert_eq!(rt; node.regs(Tid(2)).x[10], 0);
+        sets_clear_address(&mut node, Tid(2), 72);
+        assert_eq!(rt; node.clear_address(Tid(2)), 72);
+        sets_robust_list(&mut node, Tid(2), 8);
+        assert_eq!(rt; node.regs(Tid(2)).x[10], 0xffff_ffff_ffff_ffea);
+    }
+}

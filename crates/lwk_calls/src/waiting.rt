@@ -3,13 +3,9 @@ ghost use Rattle.kernel_model.specs.CloneCalls.{begins_wait, end_status, status_
 ghost use Rattle.kernel_model.specs.Traps.{waited};
 ghost use Rattle.lwk_calls.specs.Words.{wait4_refusal, waits};
 ghost use Rattle.lwk_node.specs.Room.{KeepsRoom};
-ghost use Rattle.lwk_tables.specs.Lacks.{OthersStay, memory};
 ghost use Rattle.lwk_tables.specs.Rows.{FramesApart, FramesIn};
-ghost use Rattle.isa_model.specs.Memory.{may_access};
-ghost use Rattle.lwk_views.specs.Views.{Did, DidAlone, tried};
-ghost use Rattle.mck_word.specs.Words.{little_endian};
-ghost use Rattle.mck_word.specs.declared.Access.TheVariants.{Write};
-ghost use Rattle.std.specs.Prelude.{◌≡◌, length};
+ghost use Rattle.lwk_views.specs.Views.{Did, DidAlone};
+ghost use Rattle.std.specs.Prelude.{◌≡◌};
 
 use crate::answering::{ECHILD, EFAULT, EINVAL, ENOSYS, answers, has_bit, minus};
 use crate::numbers::store_number;
@@ -20,10 +16,13 @@ use lwk_tables::Space;
 use mck_word::{End, Pid, Tid};
 use page_map::PageTable;
 
-const ALLOWED: u64 = 11;
+// WNOHANG, WUNTRACED and WCONTINUED.
+const KNOWN_OPTIONS: u64 = 11;
 
+// The bit of WNOHANG.
 const NO_HANG: u32 = 0;
 
+/// The status of an end: the code in its second byte, or the signal.
 fn end_status(end: End) -> u32
     ensures { result ≡ end_status end }
 {
@@ -105,7 +104,7 @@ fn begins_wait(node: &mut Node, t: Tid, pid: i32, status: u64, options: u32)
 fn wait4_refusal(options: u32, rusage: u64) -> Option<i64>
     ensures { result ≡ wait4_refusal options rusage }
 {
-    if minus(options as u64, ALLOWED) != 0 {
+    if minus(options as u64, KNOWN_OPTIONS) != 0 {
         Some(EINVAL)
     } else if rusage != 0 {
         Some(ENOSYS)

@@ -24,6 +24,6 @@ returns-clause-did g c =
     (others_more rows pages middle left c.tells_number.ensures.others c.tells_number-2.ensures.others) (c.tells_number-2.ensures.count ∙ c.tells_number.ensures.count)
     (λ files. clones_stand rows pages t (slice_index xs 0) (slice_index xs 1) (slice_index xs 2) (slice_index xs 3) (slice_index xs 4) m _ (node_of n files) (node_of c.clone_thread-number.new.self files) (node_of after files) middle left
     (c.clone_thread-number.ensures.number files) (c.clone_thread-number.ensures.node files)
-    (c.tells_number.ensures.memory ∙ ap (λ b. told b (slice_index xs 2) m (memory rows pages)) c.has_bit.ensures)
-    (c.tells_number-2.ensures.memory ∙ ap (λ b. told b (slice_index xs 4) m (memory rows middle)) c.has_bit-2.ensures)
+    (c.tells_number.ensures.memory ∙ ap (λ b. told b (slice_index xs 2) m (memory rows pages)) c.has_bit-parent_asks.ensures)
+    (c.tells_number-2.ensures.memory ∙ ap (λ b. told b (slice_index xs 4) m (memory rows middle)) c.has_bit-child_asks.ensures)
     number (c.answered.ensures.node files))
