@@ -6,7 +6,7 @@ use Rattle.hybrid_model.specs.declared.events.Event.{Event}
 use Rattle.ihk_parts.specs.Turns.{chosen, turn_after, words_of}
 use Rattle.ihk_parts.specs.declared.turn.Turn.{Turn}
 use Rattle.run_model.specs.Walks.{Chosen, Walker, walk_for}
-use Rattle.std.specs.Prelude.{◌≡◌, ℕ, ◌+◌, Bool, false, List, [], ◌∷◌, ◌++◌, length, Option, Some, None}
+use Rattle.std.specs.Prelude.{◌≡◌, ℕ, ◌+◌, Bool, false, List, [], ◌∷◌, ◌++◌, length, Some, None}
 
 -- Each event of the journal is the one whose turn it was. The last two are the turn and the state after it.
 abbrev pub Follows : Turn → Pair → List Event → Turn → Pair → Type 0
