@@ -1,16 +1,15 @@
 -- The lines of a job in their order: each is there, and each guest once. What is gathered is prepared.
-use Rattle.job_model.specs.Images.{IsImage}
-use Rattle.job_model.specs.Prepared.{HasArguments, IsForGuest, IsPrepared}
+use Rattle.job_model.specs.Prepared.{HasArguments, IsPrepared}
 use Rattle.job_model.specs.declared.job.FileLine.{FileLine}
 use Rattle.job_model.specs.declared.job.GuestLine.{GuestLine}
 use Rattle.job_model.specs.declared.job.InputLine.{InputLine}
 use Rattle.job_model.specs.declared.job.Job.{Job}
-use Rattle.job_text.specs.Kept.{IsGuestLine, IsJob, IsSignalLine}
+use Rattle.job_text.specs.Kept.{IsGuestLine, IsJob}
 use Rattle.job_text.specs.Order.{before_line, by_line, files_from, from_line, guests_from, inputs_from, sources_of}
 use Rattle.job_text.specs.declared.order.Source.{Source}
-use Rattle.mcexec_run.specs.Chain.{IsFilled, IsSource, images_in, images_made, prepared_job}
+use Rattle.mcexec_run.specs.Chain.{IsFilled, IsSource, images_in, prepared_job}
 use Rattle.mcexec_run.specs.declared.chain.Fetched.{Fetched}
-use Rattle.std.proofs.Common.{All, Bool, List, ap, arith, cond, false, length, nat_lt, refl, sym, true, ℕ, [], ◌+◌, ◌++◌, ◌<◌, ◌∙◌, ◌∷◌, ◌≡◌, ◌≤◌}
+use Rattle.std.proofs.Common.{Bool, List, arith, cond, false, length, nat_lt, refl, true, ℕ, [], ◌+◌, ◌++◌, ◌∙◌, ◌∷◌, ◌≡◌, ◌≤◌}
 use Rattle.std.specs.List.{AllByRecursion}
 
 -- ---- one list in another

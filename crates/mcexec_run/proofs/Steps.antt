@@ -3,7 +3,7 @@ use Rattle.mcexec_run.specs.Chain.{◌>>=◌, Fails, Gives, RoseAmong, fetched}
 use Rattle.mck_report.specs.declared.status.Status.TheVariants.{HostFault, NoMemory}
 use Rattle.mck_report.specs.declared.status.Status.{Status}
 use Rattle.outside.specs.Outside.{Appends, Held, HostGoesOn, Rose}
-use Rattle.std.proofs.Common.{◌≡◌, ℕ, List, [], ◌++◌, ◌∷◌, ◌+◌, ◌≤◌, Contains, Option, Some, None, Result, Ok, Err, arith, refl, sym, ◌∙◌, ap, subst, add-one, length, length-append, get_or, map, zero, suc, ◌<◌}
+use Rattle.std.proofs.Common.{◌≡◌, ℕ, List, [], ◌++◌, ◌∷◌, ◌+◌, ◌≤◌, Contains, Option, Some, None, Result, Ok, Err, arith, refl, sym, ◌∙◌, ap, add-one, length, length-append, get_or, map, zero, suc, ◌<◌}
 use Rattle.std.proofs.Math.ListN.{get_or-append}
 use Rattle.std.specs.List.{slice_get}
 

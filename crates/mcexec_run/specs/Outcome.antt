@@ -6,6 +6,7 @@ use Rattle.hybrid_model.specs.Shown.{one}
 use Rattle.hybrid_model.specs.declared.events.Ending.TheVariants.{Unfinished}
 use Rattle.hybrid_model.specs.declared.events.Event.{Event}
 use Rattle.ihk_parts.specs.Turns.{words_of}
+use Rattle.mcexec_run.specs.Walking.{StopsAt}
 use Rattle.mcexec_run.specs.declared.chain.Prepared.{Prepared}
 use Rattle.mcexec_run.specs.declared.command.Command.TheVariants.{Audit, Check, Grow, Replay, Run, Walk}
 use Rattle.mcexec_run.specs.declared.command.Command.{Command}
@@ -21,24 +22,26 @@ use Rattle.run_model.specs.Reports.{report_parts, requests}
 use Rattle.run_model.specs.Texts.{text_of}
 use Rattle.run_model.specs.Traces.{trace}
 use Rattle.run_model.specs.Walks.{IsWalked, start, walk_for}
-use Rattle.std.specs.Prelude.{◌≡◌, ◌≢◌, ◌⊎◌, ℕ, List, [], length, Option, Some, None, Result, Ok, Err}
+use Rattle.std.specs.Prelude.{◌≡◌, ◌≢◌, ℕ, Bool, List, [], length, Option, Some, None, Result, Ok, Err}
 
--- `ready` is what the chain before the run comes to. SoFar says which journals want of memory may leave, and Shows which status,
--- journal and text the call is to come to.
-pub data Outcome {W : Type 0} (ready : Result W Status) (SoFar : W → List Event → Type 0) (Shows : W → Status → List Event → List ℕ → Type 0)
+-- `ready` is what the chain before the run comes to. SoFar says which journals a run may leave that does not come to its end, Stops
+-- after which of them what is next is not built, and Shows which status, journal and text the call is to come to.
+pub data Outcome {W : Type 0} (ready : Result W Status) (SoFar Stops : W → List Event → Type 0) (Shows : W → Status → List Event → List ℕ → Type 0)
     (status : Status) (journal : List Event) (old new : Option (List ℕ)) : Type 0 where
   -- the first refusal: nothing is kept, nothing is written
-  Refused : ready ≡ Err status → journal ≡ [] → new ≡ old → Outcome ready SoFar Shows status journal old new
+  Refused : ready ≡ Err status → journal ≡ [] → new ≡ old → Outcome ready SoFar Stops Shows status journal old new
   -- all is written
-  Shown : (w : W) (text : List ℕ) → ready ≡ Ok w → Shows w status journal text → Takes old text new → Outcome ready SoFar Shows status journal old new
+  Shown : (w : W) (text : List ℕ) → ready ≡ Ok w → Shows w status journal text → Takes old text new → Outcome ready SoFar Stops Shows status journal old new
   -- the sink failed: a front of the text is written
   SinkFailed : (w : W) (text : List ℕ) (meant : Status) → status ≡ SinkFault → ready ≡ Ok w → Shows w meant journal text → TakesFront old text new →
-      Outcome ready SoFar Shows status journal old new
+      Outcome ready SoFar Stops Shows status journal old new
   -- the host failed
-  HostFailed : status ≡ HostFault → journal ≡ [] → new ≡ old → Outcome ready SoFar Shows status journal old new
+  HostFailed : status ≡ HostFault → journal ≡ [] → new ≡ old → Outcome ready SoFar Stops Shows status journal old new
   -- want of memory, before the run and in it
-  NoneStarted : status ≡ NoMemory → journal ≡ [] → new ≡ old → Outcome ready SoFar Shows status journal old new
-  RanShort : (w : W) → status ≡ NoMemory → ready ≡ Ok w → SoFar w journal → new ≡ old → Outcome ready SoFar Shows status journal old new
+  NoneStarted : status ≡ NoMemory → journal ≡ [] → new ≡ old → Outcome ready SoFar Stops Shows status journal old new
+  RanShort : (w : W) → status ≡ NoMemory → ready ≡ Ok w → SoFar w journal → new ≡ old → Outcome ready SoFar Stops Shows status journal old new
+  -- what is next in the run is not built
+  Unbuilt : (w : W) → status ≡ NotBuilt → ready ≡ Ok w → SoFar w journal → Stops w journal → new ≡ old → Outcome ready SoFar Stops Shows status journal old new
 
 -- ---- texts
 
@@ -69,18 +72,30 @@ pub record ShowsWalk (order : ℕ) (form : Form) (p : Prepared) (status : Status
   pub ends : status ≡ status_of (ending (last_state p journal))
   pub written : text ≡ text_at form (last_state p journal) journal
 
--- What want of memory may leave of a walk: a front of its journal.
+-- What a walk may leave that does not come to its end: a front of its journal.
 pub record LeavesWalk (order : ℕ) (p : Prepared) (journal : List Event) : Type 0 where
   pub front : walk_for (words_of order) (length journal) (start p.job p.images) ≡ journal
   pub legal : IsLegal p.job p.images journal
 
-abbrev pub WalkOutcome : Result Prepared Status → ℕ → Form → Status → List Event → Option (List ℕ) → Option (List ℕ) → Type 0
-WalkOutcome ready order form status journal old new = Outcome ready (LeavesWalk order) (ShowsWalk order form) status journal old new
+-- Where a walk stops before its end: the event whose turn it is is not built.
+abbrev pub StopsWalk : (Pair → Event → Bool) → ℕ → Prepared → List Event → Type 0
+StopsWalk built order p journal = StopsAt built order (booted p) journal
 
--- Where nothing refuses and no fault comes, the answer is the status of the walk's ending, or want of memory.
-abbrev pub Completes : Result Prepared Status → ℕ → Form → Status → List Event → Type 0
-Completes ready order form status journal =
-    (p : Prepared) → ready ≡ Ok p → status ≢ HostFault → status ≢ SinkFault → (status ≡ NoMemory) ⊎ ((text : List ℕ) × ShowsWalk order form p status journal text)
+abbrev pub WalkOutcome : (Pair → Event → Bool) → Result Prepared Status → ℕ → Form → Status → List Event → Option (List ℕ) → Option (List ℕ) → Type 0
+WalkOutcome built ready order form status journal old new = Outcome ready (LeavesWalk order) (StopsWalk built order) (ShowsWalk order form) status journal old new
+
+-- how a walk may end, with this status, where nothing refuses and no fault comes
+pub data WalkEnds (built : Pair → Event → Bool) (order : ℕ) (form : Form) (p : Prepared) (status : Status) (journal : List Event) : Type 0 where
+  -- with the status of its ending
+  Whole : (text : List ℕ) → ShowsWalk order form p status journal text → WalkEnds built order form p status journal
+  -- for want of memory
+  Short : status ≡ NoMemory → WalkEnds built order form p status journal
+  -- before an event that is not built
+  Stopped : status ≡ NotBuilt → LeavesWalk order p journal → StopsWalk built order p journal → WalkEnds built order form p status journal
+
+-- Where nothing refuses and no fault comes, the answer is the status of the walk's ending, want of memory, or that an event is not built.
+abbrev pub Completes : (Pair → Event → Bool) → Result Prepared Status → ℕ → Form → Status → List Event → Type 0
+Completes built ready order form status journal = (p : Prepared) → ready ≡ Ok p → status ≢ HostFault → status ≢ SinkFault → WalkEnds built order form p status journal
 
 -- ---- a check
 
@@ -90,7 +105,7 @@ pub record ShowsCheck (p : Prepared) (status : Status) (journal : List Event) (t
   pub written : text ≡ text_of (check_parts p.job.frames p.images)
 
 abbrev pub CheckOutcome : Result Prepared Status → Status → List Event → Option (List ℕ) → Option (List ℕ) → Type 0
-CheckOutcome ready status journal old new = Outcome ready (λ _ left. left ≡ []) ShowsCheck status journal old new
+CheckOutcome ready status journal old new = Outcome ready (λ _ left. left ≡ []) (λ _ _. ⊥) ShowsCheck status journal old new
 
 -- ---- the program
 
@@ -101,14 +116,14 @@ pub record Answers (meant status : Status) (journal : List Event) (old new : Opt
   pub nothing : new ≡ old
 
 -- What the program's call comes to, command by command: each has the clause of its call.
-abbrev pub CallOutcome : Option Command → Result Prepared Status → Status → List Event → Option (List ℕ) → Option (List ℕ) → Type 0
-CallOutcome None ready status journal old new = Answers BadWords status journal old new
-CallOutcome (Some (Walk order form)) ready status journal old new = WalkOutcome ready order form status journal old new
-CallOutcome (Some Check) ready status journal old new = CheckOutcome ready status journal old new
-CallOutcome (Some (Run form)) ready status journal old new = Answers NotBuilt status journal old new
-CallOutcome (Some Replay) ready status journal old new = Answers NotBuilt status journal old new
-CallOutcome (Some Audit) ready status journal old new = Answers NotBuilt status journal old new
-CallOutcome (Some (Grow guests order)) ready status journal old new = Answers NotBuilt status journal old new
+abbrev pub CallOutcome : (Pair → Event → Bool) → Option Command → Result Prepared Status → Status → List Event → Option (List ℕ) → Option (List ℕ) → Type 0
+CallOutcome built None ready status journal old new = Answers BadWords status journal old new
+CallOutcome built (Some (Walk order form)) ready status journal old new = WalkOutcome built ready order form status journal old new
+CallOutcome built (Some Check) ready status journal old new = CheckOutcome ready status journal old new
+CallOutcome built (Some (Run form)) ready status journal old new = Answers NotBuilt status journal old new
+CallOutcome built (Some Replay) ready status journal old new = Answers NotBuilt status journal old new
+CallOutcome built (Some Audit) ready status journal old new = Answers NotBuilt status journal old new
+CallOutcome built (Some (Grow guests order)) ready status journal old new = Answers NotBuilt status journal old new
 
 -- The same of a text for which there may have been no memory.
 abbrev pub PutsText : Result (List ℕ) Want → Status → Status → Option (List ℕ) → Option (List ℕ) → Type 0

@@ -12,7 +12,7 @@ ghost use Rattle.std.specs.Prelude.{◌≡◌, ◌≢◌, ◌≤◌, [], IfErr, 
 
 use crate::chain::{Prepared, gather};
 use crate::command::{Command, Form, read_command};
-use crate::machine::{BootError, Machine};
+use crate::machine::{BootError, Machine, Refused};
 use crate::walking::walk_journal;
 use hybrid_model::Event;
 use mck_report::{Status, report, trace};
@@ -119,7 +119,7 @@ fn walk_into<M: Machine, S: Sink>(
     requires prepared { IsPrepared p.now.job p.now.images }
     requires empty { journal.old ≡ [] }
     ensures rises { S.faults sink.old ≤ S.faults sink.new }
-    ensures outcome { WalkOutcome (with_frames p.now) order form result journal.new (S.taken sink.old) (S.taken sink.new) }
+    ensures outcome { WalkOutcome M.built (with_frames p.now) order form result journal.new (S.taken sink.old) (S.taken sink.new) }
     ensures fault { result ≡ SinkFault → Rose (S.faults sink.old) (S.faults sink.new) }
     ensures no_fault { result ≢ HostFault }
 {
@@ -129,7 +129,8 @@ fn walk_into<M: Machine, S: Sink>(
     };
     match walk_journal(&mut machine, order, journal) {
         Ok(()) => show(alloc, &machine, journal.as_slice(), form, sink),
-        Err(_) => Status::NoMemory,
+        Err(Refused::NoMemory) => Status::NoMemory,
+        Err(Refused::NotBuilt) => Status::NotBuilt,
     }
 }
 
@@ -145,7 +146,7 @@ fn walk_job<M: Machine, H: Host, S: Sink>(
     requires { journal.old ≡ [] }
     ensures goes_on { HostGoesOn H.holds H.faults host.old host.new }
     ensures rises { S.faults sink.old ≤ S.faults sink.new }
-    ensures outcome { WhereTold (H.holds host.old) (λ held. WalkOutcome (prepared held job.now) order form result journal.new (S.taken sink.old) (S.taken sink.new)) }
+    ensures outcome { WhereTold (H.holds host.old) (λ held. WalkOutcome M.built (prepared held job.now) order form result journal.new (S.taken sink.old) (S.taken sink.new)) }
     ensures host_fault { WhereTold (H.holds host.old) (λ held. result ≡ HostFault → RoseAmong H.faults host.old host.new (has_to_fetch held job.now)) }
     ensures sink_fault { result ≡ SinkFault → Rose (S.faults sink.old) (S.faults sink.new) }
 {
@@ -155,7 +156,8 @@ fn walk_job<M: Machine, H: Host, S: Sink>(
     }
 }
 
-/// Walks the job under a name in that order, and writes the report or the trace.
+/// Walks the job under a name in that order, and writes the report or the trace. Before an event that is not built the walk stops,
+/// and nothing is written.
 pub fn walk<M: Machine, H: Host, S: Sink>(
     alloc: Global,
     job: &str,
@@ -167,10 +169,10 @@ pub fn walk<M: Machine, H: Host, S: Sink>(
     ensures goes_on { HostGoesOn H.holds H.faults host.old host.new }
     ensures rises { S.faults sink.old ≤ S.faults sink.new }
     ensures outcome { WhereTold (H.holds host.old) (λ held.
-        WalkOutcome (prepared held job.now) order form result.status result.journal (S.taken sink.old) (S.taken sink.new)) }
+        WalkOutcome M.built (prepared held job.now) order form result.status result.journal (S.taken sink.old) (S.taken sink.new)) }
     ensures host_fault { WhereTold (H.holds host.old) (λ held. result.status ≡ HostFault → RoseAmong H.faults host.old host.new (has_to_fetch held job.now)) }
     ensures sink_fault { result.status ≡ SinkFault → Rose (S.faults sink.old) (S.faults sink.new) }
-    ensures complete { WhereTold (H.holds host.old) (λ held. Completes (prepared held job.now) order form result.status result.journal) }
+    ensures complete { WhereTold (H.holds host.old) (λ held. Completes M.built (prepared held job.now) order form result.status result.journal) }
 {
     let mut journal = Items::new(alloc);
     let status = walk_job::<M, H, S>(alloc, job, order, form, host, sink, &mut journal);
@@ -271,7 +273,7 @@ pub fn mcexec<M: Machine, H: Host, S: Sink>(
     ensures goes_on { HostGoesOn H.holds H.faults host.old host.new }
     ensures rises { S.faults sink.old ≤ S.faults sink.new }
     ensures outcome { WhereTold (H.holds host.old) (λ held.
-        CallOutcome (command_of words.now) (prepared held (second_word words.now)) result.status result.journal (S.taken sink.old) (S.taken sink.new)) }
+        CallOutcome M.built (command_of words.now) (prepared held (second_word words.now)) result.status result.journal (S.taken sink.old) (S.taken sink.new)) }
     ensures host_fault { WhereTold (H.holds host.old) (λ held. result.status ≡ HostFault → RoseAmong H.faults host.old host.new (has_to_fetch held (second_word words.now))) }
     ensures sink_fault { result.status ≡ SinkFault → Rose (S.faults sink.old) (S.faults sink.new) }
 {

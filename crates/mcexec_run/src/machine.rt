@@ -2,16 +2,18 @@
 ghost use Rattle.hybrid_model.specs.Boot.{Shortage, boot, shortage};
 ghost use Rattle.hybrid_model.specs.Events.{after, may};
 ghost use Rattle.hybrid_model.specs.Journals.{ending};
+ghost use Rattle.hybrid_model.specs.Pairs.{Pair};
 ghost use Rattle.hybrid_model.specs.Shown.{one};
 ghost use Rattle.hybrid_model.specs.declared.events.Ending.TheVariants.{Unfinished};
 ghost use Rattle.hybrid_model.specs.declared.events.Event.{Event};
 ghost use Rattle.job_model.specs.Prepared.{IsPrepared};
 ghost use Rattle.mcexec_run.specs.Booting.{BootFails};
+ghost use Rattle.mcexec_run.specs.declared.machine.Refused.TheVariants.{NotBuilt};
 ghost use Rattle.run_model.specs.Reports.{requests};
 ghost use Rattle.run_model.specs.Walks.{actors, first_chosen, offer};
 ghost use Rattle.run_model.specs.declared.actors.Actor.{Actor};
 ghost use Rattle.run_summary.specs.Summaries.{summary_of};
-ghost use Rattle.std.specs.Prelude.{◌≡◌, ◌≢◌, ◌<◌, ℕ, IfOk, MatchResult, None, OnOk, Some, true};
+ghost use Rattle.std.specs.Prelude.{◌≡◌, ◌≢◌, Bool, false, IfOk, IsErrOf, MatchResult, None, OnOk, Some, true};
 
 use elf_load::Image;
 use hybrid_model::{Ending, Event};
@@ -28,13 +30,30 @@ pub enum BootError {
     NoMemory,
 }
 
+/// Why no room was made for an event: want of memory, or what the event does is not built yet.
+#[derive(Clone, Copy, Debug, PartialEq, Eq)]
+pub enum Refused {
+    NoMemory,
+    NotBuilt,
+}
+
+impl From<NoMemory> for Refused {
+    ghost use Rattle.mcexec_run.specs.declared.machine.Refused.TheVariants.{NoMemory};
+
+    ghost from_gives = { λ _ e. e ≡ NoMemory };
+
+    fn from(_e: NoMemory) -> Refused {
+        Refused::NoMemory
+    }
+}
+
 /// The two kernels of a node.
 pub trait Machine: Offers + Drop {
     /// Whether room was made for the event.
     ghost has_room: { Self → Event → Type 0 };
 
-    /// A number that every event lessens.
-    ghost work: { Self → ℕ };
+    /// Whether what the event does in that state is built.
+    ghost built: { Pair → Event → Bool };
 
     /// The node at the boot of a job. `NoFrames` names the first guest for which the frames don't suffice.
     fn boot(alloc: Global, job: &Job, images: &[Image]) -> Result<Self, BootError>
@@ -42,19 +61,19 @@ pub trait Machine: Offers + Drop {
         ensures state { IfOk result (λ machine. Self.pair machine ≡ boot job.now images.now) }
         ensures frames { MatchResult result (λ _. shortage job.now images.now ≡ None) (λ e. BootFails e (shortage job.now images.now)) };
 
-    /// Makes room for the event. The state stays, also when it is refused. An event that an actor offers may happen.
-    fn make_room(&mut self, event: &Event) -> Result<(), NoMemory>
+    /// Makes room for the event. The state stays, also when it is refused. An event that an actor offers may happen. `NotBuilt` comes
+    /// only where what the event does is not built.
+    fn make_room(&mut self, event: &Event) -> Result<(), Refused>
         ensures offered { (actor : Actor) → offer (Self.pair self.old) actor ≡ Some event.now → may (Self.pair self.old) event.now ≡ true }
         ensures state { Self.pair self.new ≡ Self.pair self.old }
-        ensures work { work self.new ≡ work self.old }
-        ensures room { OnOk result (has_room self.new event.now) };
+        ensures room { OnOk result (has_room self.new event.now) }
+        ensures not_built { IsErrOf result NotBuilt → built (Self.pair self.old) event.now ≡ false };
 
     /// The event happens.
     fn apply(&mut self, event: &Event)
         requires may { may (Self.pair self.old) event.now ≡ true }
         requires room { has_room self.old event.now }
-        ensures state { Self.pair self.new ≡ after (Self.pair self.old) event.now }
-        ensures work { work self.new < work self.old };
+        ensures { Self.pair self.new ≡ after (Self.pair self.old) event.now };
 
     /// How the run stands. Where no actor has an offer, it is over.
     fn ending(&self) -> Ending

@@ -16,4 +16,4 @@ returns-in-Ok-clause-outcome g c =
 
 pub returns-in-Err-clause-outcome : goal.returns-in-Err-clause-outcome
 returns-in-Err-clause-outcome g c =
-    refused (with_frames c.args.p.now) (λ _ left. left ≡ []) ShowsCheck c.in-Err.status [] (g.S.Sink.taken c.args.sink.now) (g.S.Sink.taken c.args.sink.now) c.in-Err.ensures.refusal c.in-Err.ensures.value refl refl
+    refused (with_frames c.args.p.now) (λ _ left. left ≡ []) (λ _ _. ⊥) ShowsCheck c.in-Err.status [] (g.S.Sink.taken c.args.sink.now) (g.S.Sink.taken c.args.sink.now) c.in-Err.ensures.refusal c.in-Err.ensures.value refl refl

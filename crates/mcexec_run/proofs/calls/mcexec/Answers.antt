@@ -6,12 +6,12 @@ use Rattle.std.proofs.Common.{List, subst, ℕ, ◌∙◌}
 
 pub returns-in-Some-Walk-clause-outcome : goal.returns-in-Some-Walk-clause-outcome
 returns-in-Some-Walk-clause-outcome g c held told =
-    called_walk (command_of c.args.words.now) held (second_word c.args.words.now) _ _ _ _ _ _ _ (rw c.in-Some-Walk.field-0-is at c.in-Some-Walk.ensures.value)
+    called_walk g.M.Machine.built (command_of c.args.words.now) held (second_word c.args.words.now) _ _ _ _ _ _ _ (rw c.in-Some-Walk.field-0-is at c.in-Some-Walk.ensures.value)
     (c.as_str.ensures.value ∙ second_at c.args.words.now c.index-words-1.result c.in-Some-Walk.ensures.second c.index-words-1.is) (c.walk.ensures.outcome held told)
 
 pub returns-in-Some-Check-clause-outcome : goal.returns-in-Some-Check-clause-outcome
 returns-in-Some-Check-clause-outcome g c held told =
-    called_check (command_of c.args.words.now) held (second_word c.args.words.now) _ _ _ _ _ (rw c.in-Some-Check.field-0-is at c.in-Some-Check.ensures.value)
+    called_check g.M.Machine.built (command_of c.args.words.now) held (second_word c.args.words.now) _ _ _ _ _ (rw c.in-Some-Check.field-0-is at c.in-Some-Check.ensures.value)
     (c.as_str-in-Some-Check.ensures.value ∙ second_at c.args.words.now c.index-words-1-in-Some-Check.result c.in-Some-Check.ensures.second c.index-words-1-in-Some-Check.is) (c.check.ensures.outcome held told)
 
 pub returns-in-Some-Walk-clause-host_fault : goal.returns-in-Some-Walk-clause-host_fault

@@ -3,8 +3,7 @@ use Rattle.mcexec_run.proofs.Names.{file_among, file_text}
 use Rattle.mcexec_run.proofs.Steps.{got}
 use Rattle.mcexec_run.proofs.chain.take_file_at.Goals as goal
 use Rattle.mcexec_run.specs.Chain.{Gives, take_file}
-use Rattle.mcexec_run.specs.declared.chain.Fetched.{Fetched}
-use Rattle.std.proofs.Common.{List, Option, ap, get_or, subst, sym, ◌+◌, ◌∙◌, ◌≡◌}
+use Rattle.std.proofs.Common.{List, Option, ap, get_or, subst, sym, ◌∙◌, ◌≡◌}
 
 pub take_file-requires : goal.take_file-requires
 take_file-requires g c =

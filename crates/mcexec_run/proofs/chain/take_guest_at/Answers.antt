@@ -3,7 +3,6 @@ use Rattle.mcexec_run.proofs.Names.{guest_among, guest_text}
 use Rattle.mcexec_run.proofs.Steps.{got}
 use Rattle.mcexec_run.proofs.chain.take_guest_at.Goals as goal
 use Rattle.mcexec_run.specs.Chain.{Gives, image_name, take_guest}
-use Rattle.mcexec_run.specs.declared.chain.Fetched.{Fetched}
 use Rattle.std.proofs.Common.{List, Option, ap, get_or, subst, sym, ◌+◌, ◌∙◌, ◌≡◌}
 
 pub take_guest-requires : goal.take_guest-requires

@@ -3,8 +3,7 @@ use Rattle.mcexec_run.proofs.Names.{input_among, input_text}
 use Rattle.mcexec_run.proofs.Steps.{got}
 use Rattle.mcexec_run.proofs.chain.take_input_at.Goals as goal
 use Rattle.mcexec_run.specs.Chain.{Gives, take_input}
-use Rattle.mcexec_run.specs.declared.chain.Fetched.{Fetched}
-use Rattle.std.proofs.Common.{List, Option, ap, get_or, subst, sym, ◌+◌, ◌∙◌, ◌≡◌}
+use Rattle.std.proofs.Common.{List, Option, ap, get_or, subst, sym, ◌∙◌, ◌≡◌}
 
 pub take_input-requires : goal.take_input-requires
 take_input-requires g c =

@@ -2,7 +2,7 @@ use Rattle.hybrid_model.specs.Journals.{may_all, state}
 use Rattle.ihk_parts.specs.Turns.{first_turn}
 use Rattle.mcexec_run.proofs.walking.walk_journal.Given as goal
 use Rattle.mcexec_run.specs.Walking.{Follows}
-use Rattle.std.proofs.Common.{true, ◌≡◌}
+use Rattle.std.proofs.Common.{length, true, ◌-◌, ◌^◌, ◌≡◌}
 
 abbrev pub invariant-steps : goal.invariant-steps
 invariant-steps g l = record {
@@ -12,4 +12,4 @@ invariant-steps g l = record {
 }
 
 abbrev pub decreases-steps : goal.decreases-steps
-decreases-steps g l = g.M.Machine.work l.machine
+decreases-steps g l = 2 ^ 64 - length l.journal
