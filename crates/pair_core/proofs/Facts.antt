@@ -1,20 +1,10 @@
 -- What an event of the Linux side finds: its test, what coherence says of the process, and room in the ring back.
-<<<<<<< HEAD
-=======
 use Rattle.file_calls.specs.FileSteps.{FewCalls}
->>>>>>> 7ba6933600462e3badac0bed10b7b0857a727cef
 use Rattle.file_model.specs.Files.{Files}
 use Rattle.guest_laws.specs.RingRoom.{lwk-fits}
 use Rattle.hybrid_model.specs.Coherence.{OfProcess}
 use Rattle.hybrid_model.specs.Events.{may_here, process_of_event}
 use Rattle.hybrid_model.specs.Globals.{Places, ring_number}
-<<<<<<< HEAD
-use Rattle.hybrid_model.specs.Sides.{Row}
-use Rattle.hybrid_model.specs.declared.events.Event.{Event}
-use Rattle.mck_word.specs.MapLaws.{at-put}
-use Rattle.mck_word.specs.Maps.{Map, at, put}
-use Rattle.pair_core.proofs.Found.{may-here, of-process}
-=======
 use Rattle.hybrid_model.specs.Pairs.{Here}
 use Rattle.hybrid_model.specs.Sides.{Row}
 use Rattle.hybrid_model.specs.declared.events.Event.{Event}
@@ -23,7 +13,6 @@ use Rattle.mck_word.specs.MapLaws.{at-put}
 use Rattle.mck_word.specs.Maps.{Map, at, put}
 use Rattle.pair_core.proofs.FewCalls.{few-calls}
 use Rattle.pair_core.proofs.Found.{here-is, may-here, of-process}
->>>>>>> 7ba6933600462e3badac0bed10b7b0857a727cef
 use Rattle.pair_core.specs.Kept.{Kept, Takes}
 use Rattle.pair_core.specs.Ready.{IsSound, Ready}
 use Rattle.pair_core.specs.Shown.{here_in, pair_of, shown_side}
@@ -63,8 +52,6 @@ module _ {T F : Type 0} (rows : T → Map Row) (files : F → Files) (x : Parts 
       let b = (k.rings p s f.there).to_lwk in
       omega (arith, a, b)
 
-<<<<<<< HEAD
-=======
   -- a frame of the table is below the number of pages
   pub frame-below : {e : Event} → Finds e → Kept x → (i : ℕ) (r : Row) → at (rows s.task.space.table) i ≡ Some r → r.0.0 < length x.lwk.frames
   unfolding pair_of node_of
@@ -78,7 +65,6 @@ module _ {T F : Type 0} (rows : T → Map Row) (files : F → Files) (x : Parts 
   unfolding pair_of node_of
   few-held f = few-calls (pair_of rows files x) f.sound.coherent f.sound.small
 
->>>>>>> 7ba6933600462e3badac0bed10b7b0857a727cef
 module _ {T F : Type 0} (x y : Parts T F) (p : ℕ) (s t : Side T) where
   -- what the parts keep stays where one process's rings take as many as before, and there are as many frames
   pub kept-put : Kept x → at x.sides.map p ≡ Some s → y.sides.map ≡ put x.sides.map p t → y.workers ≡ x.workers → y.lwk.node ≡ x.lwk.node → y.lwk.pool ≡ x.lwk.pool → length y.lwk.frames ≡ length x.lwk.frames
