@@ -35,7 +35,7 @@ fetch-requires g c =
     let first = first-some (ring c.args.r h.side.to_linux) c.in-Some.m (sym c.take.ensures.value ∙ c.in-Some.is) in
     let few : c.row_mut-side.result.now.task.begun < 2 ^ 64 = subst (λ n. n < 2 ^ 64) c.rounds_begun.ensures c.rounds_begun.type_inv.fits in
     fetch-fits c.args.p.0 c.row_mut-side.result.now.proxy h.side h.node h.workers _ f.whole few c.args.r c.in-Some.m first.0 first.1
-      (subst (λ o. HasFetchRoom o c.row_mut-side.result.now.proxy) (ap head_of first.1) (c.requires.room c.row_mut-side.result.now c.row_mut-side.ensures.value))
+    (subst (λ o. HasFetchRoom o c.row_mut-side.result.now.proxy) (ap head_of first.1) (c.requires.room c.row_mut-side.result.now c.row_mut-side.ensures.value))
 
 pub returns-clause-after : goal.returns-clause-after
 returns-clause-after g c =
