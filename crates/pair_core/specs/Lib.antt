@@ -1,4 +1,0 @@
-pub mod Kept
-pub mod LinuxRoom
-pub mod Ready
-pub mod Shown
