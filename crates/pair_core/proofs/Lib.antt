@@ -4,3 +4,4 @@ pub mod Fetched
 pub mod FewCalls
 pub mod Found
 pub mod Linux
+pub mod MayLinux

@@ -4,6 +4,7 @@
 //! state that the two kernels reach (specs/Ready). What takes memory has its room made before.
 #![tactic(auto)]
 
+mod linux_may;
 mod parks;
 mod parts;
 mod pieces;
