@@ -5,6 +5,7 @@
 #![tactic(auto)]
 
 mod kernel_events;
+mod linux_may;
 mod parks;
 mod parts;
 mod pieces;
