@@ -41,7 +41,7 @@ no-member f (g ∷ gs) e = go (f == g) refl e (no-member f gs)
   where
     go : (b : Bool) → (f == g) ≡ b → (if b then 1 else 0) + copies f gs ≡ 0 → (copies f gs ≡ 0 → member f gs ≡ false) → ((g == f) || member f gs) ≡ false
     go true i h k = absurd (omega (arith, h))
-    go false i h k = let a : (g == f) ≡ false = grind (arith, nat_tests, i) in rw a (k h)
+    go false i h k = let a : (g == f) ≡ false = grind (arith, nat_tests, i) in rw a (k (omega (arith, h)))
 
 -- a ring with a message more is longer
 pub post-longer : (r : ℕ) (m : Msg) (rs : List (List Msg)) → r < length rs → length (ring r (post r m rs)) ≡ length (ring r rs) + 1

@@ -21,8 +21,8 @@ run-requires g c =
     let may : MayRun c.args.t.0 c.args.most (here_in g.T.PageTable.rows g.F.FileStore.files x s) = may-run-is c.args.core c.args.t.0 c.args.most (here_in g.T.PageTable.rows g.F.FileStore.files x s)
         (may-here g.T.PageTable.rows g.F.FileStore.files x p s (Run c.args.core c.args.t c.args.most) there process c.requires.ready) in
     let within = may.within in
-    let left = c.left_of_limit-_left.ensures.is (g.F.FileStore.files x.files) in
-    let fits = c.left_of_limit-_left.ensures.fits in
+    let left = c.left_of_limit-left.ensures.is (g.F.FileStore.files x.files) in
+    let fits = c.left_of_limit-left.ensures.fits in
     record {
       sound = sound-table g.T.PageTable.rows g.F.FileStore.files x p s there c.requires.ready.sound.coherent c.requires.kept;
       wired = wired g.T.PageTable.rows g.F.FileStore.files x p s there c.requires.ready.sound;
