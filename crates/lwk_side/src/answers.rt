@@ -2,6 +2,7 @@
 ghost use Rattle.hybrid_model.specs.Lwk.{answer_to, give_answer, may_answer, post_answer, thread_served};
 ghost use Rattle.hybrid_model.specs.Pairs.{ring_of, with_side};
 ghost use Rattle.hybrid_model.specs.Sides.{LinuxSide, looked_up};
+ghost use Rattle.lwk_side.specs.Sound.{KeepsRings};
 ghost use Rattle.lwk_side.specs.Shown.{Rest, here_of, side_of};
 ghost use Rattle.lwk_side.specs.Wired.{HasPlace, Wired};
 ghost use Rattle.mck_word.specs.Maps.{at};
@@ -48,9 +49,10 @@ impl Lwk {
         requires place { HasPlace self.now channel.old.to_linux t.0 }
         requires worker { w < 4 }
         requires noted { IsSome (at task.old.noted w) }
-        ensures { (r : Rest) → thread_served (side_of (T.rows task.old.space.table) task.old channel.old r.linux) w ≡ t.0
+        ensures event { (r : Rest) → thread_served (side_of (T.rows task.old.space.table) task.old channel.old r.linux) w ≡ t.0
             → here_of self.now (T.rows task.new.space.table) task.new channel.new r
             ≡ (let h = here_of self.now (T.rows task.old.space.table) task.old channel.old r in with_side h (post_answer (ring_of h t.0) w h.side)) }
+        ensures rings { KeepsRings channel.old channel.new }
     {
         let Some((page, access)) = task.noted.of(w) else {
             return;

@@ -5,7 +5,7 @@ ghost use Rattle.kernel_model.specs.Nodes.{set_does};
 ghost use Rattle.kernel_model.specs.Plans.{Phase};
 ghost use Rattle.kernel_model.specs.Progress.{starting};
 ghost use Rattle.kernel_model.specs.declared.Does.TheVariants.{Called};
-ghost use Rattle.lwk_side.specs.Sound.{KeepsFrames};
+ghost use Rattle.lwk_side.specs.Sound.{KeepsFrames, KeepsRings};
 ghost use Rattle.lwk_side.specs.Shown.{Rest, here_of};
 ghost use Rattle.lwk_side.specs.Wired.{HasPlace, Wired};
 ghost use Rattle.std.specs.Prelude.{◌≡◌, ◌<◌, ◌-◌, ◌≤◌, ◌^◌, List};
@@ -38,6 +38,7 @@ impl Lwk {
             ≡ (let h = here_of self.old (T.rows task.old.space.table) task.old channel.old r in
             with_node (with_side h (begin_call (ring_of h t.0) t.0 (starting number args.now phases) h.side)) (set_does t.0 Called h.node)) }
         ensures frames { KeepsFrames self.old self.new }
+        ensures rings { KeepsRings channel.old channel.new }
     {
         let q = channel.book.fresh();
         let call = Call {

@@ -1,7 +1,7 @@
 // Interrupts of threads that call, sleep or wait.
 ghost use Rattle.hybrid_model.specs.Lwk.{interrupt, is_calling, may_interrupt};
 ghost use Rattle.lwk_side.specs.Marks.{marked};
-ghost use Rattle.lwk_side.specs.Sound.{KeepsFrames};
+ghost use Rattle.lwk_side.specs.Sound.{KeepsFrames, KeepsRings};
 ghost use Rattle.lwk_side.specs.Shown.{Rest, here_of, shown_caller};
 ghost use Rattle.lwk_side.specs.Wired.{HasPlace, Wired};
 ghost use Rattle.mck_word.specs.Maps.{at, each};
@@ -41,6 +41,7 @@ impl Lwk {
         ensures event { (r : Rest) → here_of self.new (T.rows task.new.space.table) task.new channel.new r
             ≡ marked t.0 (shown_caller caller) (here_of self.old (T.rows task.old.space.table) task.old channel.old r) }
         ensures frames { KeepsFrames self.old self.new }
+        ensures rings { KeepsRings channel.old channel.new }
     {
         let place = self.node.place(t);
         let ring = self.ring_of(t);
@@ -63,6 +64,7 @@ impl Lwk {
         ensures event { (r : Rest) → here_of self.new (T.rows task.new.space.table) task.new channel.new r
             ≡ interrupt t.0 (here_of self.old (T.rows task.old.space.table) task.old channel.old r) }
         ensures frames { KeepsFrames self.old self.new }
+        ensures rings { KeepsRings channel.old channel.new }
     {
         match task.callers.get(t.0 as u64).copied() {
             Some(caller) => self.mark(task, channel, t, caller),

@@ -2,7 +2,7 @@
 ghost use Rattle.hybrid_model.specs.Lwk.{caller_of, take_fault, take_reply};
 ghost use Rattle.hybrid_model.specs.Rings.{rest_of};
 ghost use Rattle.ikc_ring.specs.Rings.{without_head};
-ghost use Rattle.lwk_side.specs.Sound.{KeepsFrames};
+ghost use Rattle.lwk_side.specs.Sound.{KeepsFrames, KeepsRings};
 ghost use Rattle.lwk_side.specs.Shown.{Rest, here_of, shown_caller};
 ghost use Rattle.lwk_side.specs.Wired.{CallersFit};
 ghost use Rattle.mck_word.specs.Maps.{at, each};
@@ -49,6 +49,7 @@ impl Lwk {
         ensures event { (r : Rest) → here_of self.new (T.rows task.new.space.table) task.new channel.new r
             ≡ take_reply q.0 code (rest_of channel.old.to_lwk.items) (here_of self.old (T.rows task.old.space.table) task.old channel.old r) }
         ensures frames { KeepsFrames self.old self.new }
+        ensures rings { KeepsRings channel.old channel.new }
     {
         let Some(t) = caller_of(&task.callers, q) else {
             return;
@@ -68,8 +69,9 @@ impl Lwk {
         access: Access,
     )
         requires { w < 4 }
-        ensures { (r : Rest) → here_of self.now (T.rows task.new.space.table) task.new channel.new r
+        ensures event { (r : Rest) → here_of self.now (T.rows task.new.space.table) task.new channel.new r
             ≡ take_fault w page access (rest_of channel.old.to_lwk.items) (here_of self.now (T.rows task.old.space.table) task.old channel.old r) }
+        ensures rings { KeepsRings channel.old channel.new }
     {
         task.noted.note(w, page, access);
         let _fault = channel.to_lwk.next();

@@ -2,6 +2,7 @@
 ghost use Rattle.clear_rounds.specs.declared.Phase.TheVariants.{Posted};
 ghost use Rattle.hybrid_model.specs.Lwk.{begin_round, begin_vm, may_begin_vm};
 ghost use Rattle.hybrid_model.specs.Pairs.{ring_of, with_side};
+ghost use Rattle.lwk_side.specs.Sound.{KeepsRings};
 ghost use Rattle.lwk_side.specs.Shown.{Rest, here_of};
 ghost use Rattle.lwk_side.specs.Wired.{HasPlace, Wired};
 ghost use Rattle.std.specs.Prelude.{◌≡◌, ◌+◌, ◌<◌, ◌^◌, None};
@@ -36,8 +37,9 @@ impl Lwk {
         requires place { HasPlace self.now channel.old.to_linux t.0 }
         requires none { channel.old.round ≡ None }
         requires few { task.old.begun + 1 < 2 ^ 64 }
-        ensures { (r : Rest) → here_of self.now (T.rows task.new.space.table) task.new channel.new r
+        ensures event { (r : Rest) → here_of self.now (T.rows task.new.space.table) task.new channel.new r
             ≡ (let h = here_of self.now (T.rows task.old.space.table) task.old channel.old r in with_side h (begin_round (ring_of h t.0) t.0 range h.side)) }
+        ensures rings { KeepsRings channel.old channel.new }
     {
         task.begun += 1;
         task.changing = Some(t);
