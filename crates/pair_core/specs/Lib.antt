@@ -1,3 +1,4 @@
+pub mod KernelRoom
 pub mod Kept
 pub mod LinuxRoom
 pub mod Ready

@@ -6,6 +6,7 @@
 
 mod kernel_events;
 mod linux_may;
+mod messages;
 mod parks;
 mod parts;
 mod pieces;
