@@ -2,3 +2,4 @@ mod Slotted
 mod Viewing
 mod Calling
 mod Marking
+mod Dispatched
