@@ -19,7 +19,7 @@ by-number rows before after pages left t number n a word e h d =
     did_as rows pages before after left word (one_of_calls t number a) (λ files. ap (λ k. one_of_calls t k a (seen rows before pages files)) e ∙ h (seen rows before pages files)) d
 
 -- a number whose call isn't built is another
-other : (number k : ℕ) → is_built_call k ≡ false → is_built_call number ≡ true → (number == k) ≡ false
+pub other : (number k : ℕ) → is_built_call k ≡ false → is_built_call number ≡ true → (number == k) ≡ false
 other number k not-built built = ne_eqb number k (λ e. absurd (grind (arith, sym not-built ∙ ap is_built_call (sym e) ∙ built)))
 
 -- a built call with none of the numbers before is the wait for a child

@@ -3,3 +3,5 @@ mod Viewing
 mod Calling
 mod Marking
 mod Dispatched
+mod Behind
+mod Planned
