@@ -34,18 +34,12 @@ impl Lwk {
         requires room { 1 ≤ channel.old.book.spare }
         requires callers { 1 ≤ task.old.callers.spare }
         requires more { channel.old.book.requests.next < 2 ^ 64 - 1 }
-<<<<<<< HEAD
-        ensures event { (r : Rest) (phases : List Phase) → here_of self.new (T.rows task.new.space.table) task.new channel.new r
-            ≡ (let h = here_of self.old (T.rows task.old.space.table) task.old channel.old r in
-            with_node (with_side h (begin_call (ring_of h t.0) t.0 (starting number args.now phases) h.side)) (set_does t.0 Called h.node)) }
-        ensures frames { KeepsFrames self.old self.new }
-        ensures rings { KeepsRings channel.old channel.new }
-=======
         ensures after { (r : Rest) (phases : List Phase) → here_of self.new (T.rows task.new.space.table) task.new channel.new r
             ≡ (let h = here_of self.old (T.rows task.old.space.table) task.old channel.old r in
             with_node (with_side h (begin_call (ring_of h t.0) t.0 (starting number args.now phases) h.side)) (set_does t.0 Called h.node)) }
         ensures cores { self.new.cores ≡ self.old.cores }
->>>>>>> 268f879375962f9e211df24e5169a34099990184
+        ensures frames { KeepsFrames self.old self.new }
+        ensures rings { KeepsRings channel.old channel.new }
     {
         let q = channel.book.fresh();
         let call = Call {

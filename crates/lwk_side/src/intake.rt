@@ -1,6 +1,7 @@
 // Messages that the lightweight kernel takes from its ring.
 ghost use Rattle.hybrid_model.specs.Lwk.{intake};
 ghost use Rattle.lwk_side.specs.Heads.{is_first_taken};
+ghost use Rattle.lwk_side.specs.Sound.{KeepsFrames, KeepsRings};
 ghost use Rattle.lwk_side.specs.Shown.{Rest, here_of};
 ghost use Rattle.lwk_side.specs.Wired.{CallersFit};
 ghost use Rattle.std.specs.Prelude.{◌≡◌, true};
@@ -18,8 +19,10 @@ impl Lwk {
     pub fn intake<T: PageTable>(&mut self, p: Pid, task: &mut Task<T>, channel: &mut Channel)
         requires callers { CallersFit task.old.callers.map }
         requires first { is_first_taken channel.old.to_lwk.items ≡ true }
-        ensures { (r : Rest) → here_of self.new (T.rows task.new.space.table) task.new channel.new r
+        ensures event { (r : Rest) → here_of self.new (T.rows task.new.space.table) task.new channel.new r
             ≡ intake p.0 channel.old.to_lwk.items (here_of self.old (T.rows task.old.space.table) task.old channel.old r) }
+        ensures frames { KeepsFrames self.old self.new }
+        ensures rings { KeepsRings channel.old channel.new }
     {
         match channel.to_lwk.head().copied() {
             Some(Msg::Reply { q, code }) => self.take_reply(task, channel, q, code),

@@ -17,7 +17,7 @@ ghost use Rattle.lwk_node.specs.Shown.{node_of};
 ghost use Rattle.lwk_side.specs.Built.{is_built_call, is_built_stop, is_built_trap};
 ghost use Rattle.lwk_side.specs.Resting.{MayRest};
 ghost use Rattle.lwk_side.specs.Shown.{Rest, here_of};
-ghost use Rattle.lwk_side.specs.Sound.{IsSound};
+ghost use Rattle.lwk_side.specs.Sound.{IsSound, KeepsFrames, KeepsRings};
 ghost use Rattle.lwk_side.specs.Wired.{HasPlace, Wired};
 ghost use Rattle.mck_word.specs.Words.{refused};
 ghost use Rattle.std.specs.Prelude.{◌≡◌, ◌<◌, ◌-◌, ◌≤◌, ◌^◌, List, Some, get_or, true, ℕ};
@@ -72,6 +72,7 @@ impl Lwk {
             ≡ (let h = here_of self.old (T.rows task.now.space.table) task.now c r in
             with_view (on_node (raised t.0 (signal_of_stop stop)) (view_here h)) h) }
         ensures cores { self.new.cores ≡ self.old.cores }
+        ensures frames { KeepsFrames self.old self.new }
     {
         raises(&mut self.node, t, stop);
     }
@@ -83,6 +84,7 @@ impl Lwk {
             ≡ (let h = here_of self.old (T.rows task.now.space.table) task.now c r in
             with_view (answers t.0 (refused ENOSYS) (past_ecall t.0 (view_here h))) h) }
         ensures cores { self.new.cores ≡ self.old.cores }
+        ensures frames { KeepsFrames self.old self.new }
     {
         self.node.past_ecall(t);
         refuses_unknown(&mut self.node, t);
@@ -103,6 +105,7 @@ impl Lwk {
             ≡ (let h = here_of self.old (T.rows task.now.space.table) task.now c r in
             with_view (one_of_calls t.0 number (λ k. get_or args.now k 0) (past_ecall t.0 (view_here h))) h) }
         ensures cores { self.new.cores ≡ self.old.cores }
+        ensures frames { KeepsFrames self.old self.new }
     {
         self.node.past_ecall(t);
         local_call(
@@ -133,6 +136,8 @@ impl Lwk {
             ≡ (let h = here_of self.old (T.rows task.old.space.table) task.old channel.old r in
             trapped p t.0 (Begins (past_ecall t.0 (view_here h)).node (starting number args.now phases)) h) }
         ensures cores { self.new.cores ≡ self.old.cores }
+        ensures frames { KeepsFrames self.old self.new }
+        ensures rings { KeepsRings channel.old channel.new }
     {
         self.node.past_ecall(t);
         self.begin_call(task, channel, t, number, args);
@@ -158,6 +163,8 @@ impl Lwk {
             ≡ (let h = here_of self.old (T.rows task.old.space.table) task.old channel.old r in
             trapped p t.0 (planned t.0 free regs.now (past_ecall t.0 (view_here h)) (plans.plan (reg regs.now 17) (arguments_in regs.now))) h) }
         ensures cores { self.new.cores ≡ self.old.cores }
+        ensures frames { KeepsFrames self.old self.new }
+        ensures rings { KeepsRings channel.old channel.new }
     {
         let number = call_number(regs);
         let args = arguments_of(regs);
@@ -189,6 +196,8 @@ impl Lwk {
             ≡ (let h = here_of self.old (T.rows task.old.space.table) task.old channel.old r in
             trapped p t.0 (trap_of_stop t.0 free (view_here h) (Some stop)) h) }
         ensures cores { self.new.cores ≡ self.old.cores }
+        ensures frames { KeepsFrames self.old self.new }
+        ensures rings { KeepsRings channel.old channel.new }
     {
         match stop {
             Stop::Ecall => {
@@ -215,8 +224,10 @@ impl Lwk {
         requires more { channel.old.book.requests.next < 2 ^ 64 - 1 }
         requires rest { MayRest self.old.node t.0 }
         requires built { (files : Files) → is_built_trap (node_of self.old.node files) t.0 ≡ true }
-        ensures { (r : Rest) → here_of self.new (T.rows task.new.space.table) task.new channel.new r
+        ensures event { (r : Rest) → here_of self.new (T.rows task.new.space.table) task.new channel.new r
             ≡ after_trap p.0 t.0 (here_of self.old (T.rows task.old.space.table) task.old channel.old r) }
+        ensures frames { KeepsFrames self.old self.new }
+        ensures rings { KeepsRings channel.old channel.new }
     {
         let Does::Stopped(stop) = self.node.does(t) else {
             return;
