@@ -7,7 +7,7 @@ use Rattle.lwk_side.proofs.Planned.{after-stop}
 use Rattle.lwk_side.proofs.kernel.Lwk.trap.Goals as goal
 use Rattle.lwk_side.specs.Built.{is_built_stop}
 use Rattle.lwk_side.specs.Shown.{here_of}
-use Rattle.std.proofs.Common.{ap, sym, ◌∙◌, ◌≡◌}
+use Rattle.std.proofs.Common.{ap, sym, ◌∙◌}
 use Rattle.std.specs.Prelude.{length}
 
 pub trap_of_stop-requires-clause-built : goal.trap_of_stop-requires-clause-built
@@ -15,8 +15,8 @@ trap_of_stop-requires-clause-built g c = λ files.
     let regs = (thread_of (node_of c.args.self.now.node files) c.args.t.0).regs in
     ap (λ (d : Does). is_built_stop (reg regs 17) (stop_in d)) (sym c.in-Stopped.is ∙ c.does.ensures files) ∙ c.requires.built files
 
-pub returns : goal.returns
-returns g c = λ r.
+pub returns-clause-event : goal.returns-clause-event
+returns-clause-event g c = λ r.
     let rows = g.T.PageTable.rows c.args.task.now.space.table in
     let h = here_of c.args.self.now rows c.args.task.now c.args.channel.now r in
     let t = c.args.t.0 in
