@@ -4,4 +4,5 @@ pub mod Fetched
 pub mod FewCalls
 pub mod Found
 pub mod Linux
+pub mod MadeRoom
 pub mod MayLinux

@@ -5,6 +5,7 @@
 #![tactic(auto)]
 
 mod linux_may;
+mod linux_room;
 mod parks;
 mod parts;
 mod pieces;
