@@ -3,7 +3,7 @@ use Rattle.hybrid_laws.specs.Tests.{both}
 use Rattle.hybrid_model.specs.Events.{copy, copy_to, has_worker}
 use Rattle.hybrid_model.specs.Linux.{may_copy, moved_by}
 use Rattle.hybrid_model.specs.Pairs.{Here}
-use Rattle.hybrid_model.specs.Sides.{no_pin, pin_of}
+use Rattle.hybrid_model.specs.Sides.{no_pin}
 use Rattle.hybrid_model.specs.Spaces.{frame_bytes}
 use Rattle.hybrid_model.specs.declared.events.Event.TheVariants.{Copy}
 use Rattle.kernel_model.specs.Nodes.{set_files}
@@ -45,7 +45,7 @@ page_mut-page-requires g c =
     let pinned : at h.side.linux.pins c.args.w ≡ Some c.in-Some.pin = ap (λ m. at m c.args.w) (sym c.pins.ensures) ∙ sym c.of.ensures ∙ c.in-Some.is in
     let covers = f.whole.covered.pin_rows c.args.w c.in-Some.pin pinned in
     let below : c.in-Some.pin.frame.0 < length c.args.self.now.lwk.frames = subst (λ n. n < length c.args.self.now.lwk.frames) (ap (λ x. x.0) covers.frame)
-      (frame-below g.T.PageTable.rows g.F.FileStore.files c.args.self.now c.args.p.0 c.row_mut-side.result.now f c.requires.kept c.in-Some.pin.page covers.row covers.there) in
+    (frame-below g.T.PageTable.rows g.F.FileStore.files c.args.self.now c.args.p.0 c.row_mut-side.result.now f c.requires.kept c.in-Some.pin.page covers.row covers.there) in
     below
 
 pub copy-requires-clause-may : goal.copy-requires-clause-may
@@ -73,7 +73,7 @@ returns-clause-after g c =
     let pinned : at h.side.linux.pins c.args.w ≡ Some c.in-Some.pin = ap (λ m. at m c.args.w) (sym c.pins.ensures) ∙ sym c.of.ensures ∙ c.in-Some.is in
     let covers = f.whole.covered.pin_rows c.args.w c.in-Some.pin pinned in
     let below : c.in-Some.pin.frame.0 < length c.args.self.now.lwk.frames = subst (λ n. n < length c.args.self.now.lwk.frames) (ap (λ x. x.0) covers.frame)
-      (frame-below g.T.PageTable.rows g.F.FileStore.files c.args.self.now c.args.p.0 c.row_mut-side.result.now f c.requires.kept c.in-Some.pin.page covers.row covers.there) in
+    (frame-below g.T.PageTable.rows g.F.FileStore.files c.args.self.now c.args.p.0 c.row_mut-side.result.now f c.requires.kept c.in-Some.pin.page covers.row covers.there) in
     let bytes : frame_bytes h.frames c.in-Some.pin.frame.0 ≡ c.page_mut-page.result.now = frame-bytes c.args.self.now.lwk.frames c.in-Some.pin.frame.0 below ∙ sym c.page_mut-page.ensures.page in
     let copied_by : List ℕ → Here = λ bs. copy_to c.args.p.0 c.args.w c.in-Some.pin.frame.0 (moved_by c.args.p.0 h.side.linux h.node.files c.args.w bs) h in
     let copied_at : Pin → Here = λ x. copy_to c.args.p.0 c.args.w x.frame.0 (moved_by c.args.p.0 h.side.linux h.node.files c.args.w (frame_bytes h.frames x.frame.0)) h in
