@@ -6,7 +6,11 @@
 
 mod kernel_events;
 mod linux_may;
+<<<<<<< HEAD
 mod messages;
+=======
+mod linux_room;
+>>>>>>> bf74ebbde59fe659d04426b10bacb2f430b7a9bc
 mod parks;
 mod parts;
 mod pieces;
