@@ -6,3 +6,4 @@ pub mod Fetched
 pub mod FewCalls
 pub mod Linux
 pub mod MayLinux
+pub mod Taken
