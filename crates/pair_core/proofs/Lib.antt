@@ -7,3 +7,4 @@ pub mod FewCalls
 pub mod Linux
 pub mod MayLinux
 pub mod Taken
+pub mod Posting
