@@ -7,3 +7,5 @@ pub mod FewCalls
 pub mod Linux
 pub mod MadeRoom
 pub mod MayLinux
+pub mod Taken
+pub mod Posting

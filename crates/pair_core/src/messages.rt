@@ -29,16 +29,19 @@ impl<T: PageTable + Drop, F: FileStore> Parts<T, F> {
     {
         few();
         let side = self.sides.row_mut(p.0 as u64);
-        match side.channel.to_lwk.head().copied() {
-            Some(Msg::Reply { q, code }) => {
+        let Some(m) = side.channel.to_lwk.head().copied() else {
+            return;
+        };
+        match m {
+            Msg::Reply { q, code } => {
                 self.lwk
                     .take_reply(&mut side.task, &mut side.channel, q, code)
             }
-            Some(Msg::Fault {
+            Msg::Fault {
                 worker,
                 page,
                 access,
-            }) => {
+            } => {
                 self.lwk
                     .take_fault(&mut side.task, &mut side.channel, worker, page, access)
             }
