@@ -6,11 +6,8 @@
 
 mod kernel_events;
 mod linux_may;
-<<<<<<< HEAD
-mod messages;
-=======
 mod linux_room;
->>>>>>> bf74ebbde59fe659d04426b10bacb2f430b7a9bc
+mod messages;
 mod parks;
 mod parts;
 mod pieces;
