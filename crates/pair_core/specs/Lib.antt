@@ -1,3 +1,4 @@
+pub mod Booting
 pub mod Kept
 pub mod Ready
 pub mod Shown

@@ -4,7 +4,13 @@
 //! state that the two kernels reach (specs/Ready). What takes memory has its room made before.
 #![tactic(auto)]
 
+mod boot_error;
+mod boot_files;
+mod boot_guests;
+mod boot_script;
+mod booting;
 mod parts;
 mod pins;
 
+pub use boot_error::BootError;
 pub use parts::{Parts, Side};
