@@ -1,14 +1,19 @@
 -- The node with a guest more: its number isn't used before.
+use Rattle.file_model.specs.Files.{Files}
 use Rattle.hybrid_laws.specs.Written.{each-entry}
 use Rattle.hybrid_model.specs.Tallies.{Each}
 use Rattle.kernel_model.specs.Layout.{guest_regs}
 use Rattle.kernel_model.specs.Nodes.{Node, Process, Thread, no_thread, threads_of}
 use Rattle.kernel_model.specs.OneKernel.{Guest, first_free_number, guest_process}
+use Rattle.lwk_node.specs.Shown.{node_of}
+use Rattle.lwk_node.specs.declared.tables.Node.{Node as Tables}
 use Rattle.mck_word.specs.MapLaws.{at-put}
 use Rattle.mck_word.specs.Maps.{Map, at, entries, put}
 use Rattle.mck_word.specs.declared.Regs.{Regs}
 use Rattle.pair_core.specs.Booting.{IsBefore, node_with}
-use Rattle.std.proofs.Common.{ap, arith, inl, inr, refl, sym, ◌∙◌}
+use Rattle.pair_core.specs.Kept.{Takes}
+use Rattle.pair_core.specs.declared.parts.Side.{Side}
+use Rattle.std.proofs.Common.{ap, arith, inl, inr, refl, subst, sym, ◌∙◌}
 use Rattle.std.proofs.lemmas.Bool.Decides.{nat_tests}
 use Rattle.std.proofs.lemmas.Bool.{cases_lt}
 use Rattle.std.specs.Prelude.{Bool, List, None, Option, Some, [], cond, false, filter, length, map, max, true, ℕ, ◌+◌, ◌==◌, ◌∷◌, ◌≡◌, ◌≤◌}
@@ -54,3 +59,23 @@ before-more g a before = record {
     go : (t : ℕ) (y : Thread) (b : Bool) → (t == g.number) ≡ b → cond b (Some (first g.number (guest_regs g.image g.arguments))) (at a.threads t) ≡ Some y → y.process ≡ t
     go t y true s e = let same : first g.number (guest_regs g.image g.arguments) ≡ y = cc in let here : t ≡ g.number = grind (arith, nat_tests, s) in sym (ap (λ (x : Thread). x.process) same) ∙ sym here
     go t y false s e = before.own t y e
+
+-- ---- the tables, whatever the files are
+
+pub any-files : (n : ℕ) (node : Tables) (files others : Files) → IsBefore n (node_of node files) → IsBefore n (node_of node others)
+unfolding node_of
+any-files n node files others before = record { next = before.next; none = before.none; own = before.own }
+
+pub same-frames : (a b : Tables) (files : Files) (g : Guest) → node_of b files ≡ node_with g (node_of a files) → b.frame_count ≡ a.frame_count
+unfolding node_of
+same-frames a b files g e = ap (λ (n : Node). n.frame_count) e
+
+-- ---- the rings of the sides
+
+pub rings-more : {T : Type 0} (n : ℕ) (old new : Map (Side T)) (k : ℕ) (v : Side T) → new ≡ put old k v → ((p : ℕ) (s : Side T) → at old p ≡ Some s → Takes n s.channel) → Takes n v.channel
+    → (p : ℕ) (s : Side T) → at new p ≡ Some s → Takes n s.channel
+rings-more {T} n old new k v puts kept fresh p s e = go (p == k) (sym (ap (λ (m : Map (Side T)). at m p) puts ∙ at-put old k v p) ∙ e)
+  where
+    go : (b : Bool) → cond b (Some v) (at old p) ≡ Some s → Takes n s.channel
+    go true h = let same : v ≡ s = cc in subst (λ (x : Side T). Takes n x.channel) same fresh
+    go false h = kept p s h

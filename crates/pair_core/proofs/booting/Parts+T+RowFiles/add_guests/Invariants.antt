@@ -3,7 +3,7 @@ use Rattle.job_model.specs.Images.{IsImage}
 use Rattle.job_model.specs.Prepared.{HasArguments}
 use Rattle.kernel_model.specs.OneKernel.{guests_from}
 use Rattle.one_files.specs.Seen.{seen}
-use Rattle.pair_core.proofs.booting.Parts.add_guests.Given as goal
+use Rattle.pair_core.proofs.booting.Parts+T+RowFiles.add_guests.Given as goal
 use Rattle.pair_core.specs.Booting.{IsBefore, pair_with}
 use Rattle.pair_core.specs.Kept.{Kept}
 use Rattle.pair_core.specs.Shown.{pair_of}
