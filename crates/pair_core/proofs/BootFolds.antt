@@ -1,5 +1,6 @@
 -- The boot is what the guests leave, one after another.
-use Rattle.hybrid_model.specs.Boot.{Booted, Shortage, boot, guest_space, shortage_from, with_guest, zero_frames}
+use Rattle.hybrid_laws.specs.BootPages.{length-from}
+use Rattle.hybrid_model.specs.Boot.{Booted, Shortage, boot, guest_space, shortage, shortage_from, with_guest, zero_frames}
 use Rattle.hybrid_model.specs.Pairs.{Pair}
 use Rattle.hybrid_model.specs.Sides.{Side, new_side, no_lwk}
 use Rattle.hybrid_model.specs.Spaces.{Space}
@@ -126,3 +127,9 @@ goes-on free left g gs h e =
     let less : left ≡ free - needed_frames g.image = omega (arith, e) in
     ap (λ n. shortage_from n gs) less
     ∙ first-none (nat_lt free (needed_frames g.image)) (record { guest = g.number; needed = needed_frames g.image; free = free }) (shortage_from (free - needed_frames g.image) gs) h
+
+-- the shortage of the job is that of its guests before the first of them
+pub whole-shortage : (job : Job) (images : List Image) (x : Pair) (lines : List GuestLine) → x ≡ no_guests job → lines ≡ job.guests → shortage_from (length x.free) (guests_from 1 lines images) ≡ shortage job images
+unfolding guests_of
+whole-shortage job images x lines e l =
+    (λ i. shortage_from (length (e i).free) (guests_from 1 (l i) images)) ∙ ap (λ n. shortage_from n (guests_from 1 job.guests images)) (length-from 0 job.frames)

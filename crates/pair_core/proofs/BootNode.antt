@@ -2,15 +2,16 @@
 use Rattle.file_model.specs.Files.{Files}
 use Rattle.hybrid_laws.specs.Written.{each-entry}
 use Rattle.hybrid_model.specs.Tallies.{Each}
+use Rattle.job_model.specs.declared.job.Job.{Job}
 use Rattle.kernel_model.specs.Layout.{guest_regs}
 use Rattle.kernel_model.specs.Nodes.{Node, Process, Thread, no_thread, threads_of}
 use Rattle.kernel_model.specs.OneKernel.{Guest, first_free_number, guest_process}
 use Rattle.lwk_node.specs.Shown.{node_of}
 use Rattle.lwk_node.specs.declared.tables.Node.{Node as Tables}
-use Rattle.mck_word.specs.MapLaws.{at-put}
+use Rattle.mck_word.specs.MapLaws.{at-none, at-put}
 use Rattle.mck_word.specs.Maps.{Map, at, entries, put}
 use Rattle.mck_word.specs.declared.Regs.{Regs}
-use Rattle.pair_core.specs.Booting.{IsBefore, node_with}
+use Rattle.pair_core.specs.Booting.{IsBefore, no_guests, node_with}
 use Rattle.pair_core.specs.Kept.{Takes}
 use Rattle.pair_core.specs.declared.parts.Side.{Side}
 use Rattle.std.proofs.Common.{ap, arith, inl, inr, refl, subst, sym, ◌∙◌}
@@ -79,3 +80,7 @@ rings-more {T} n old new k v puts kept fresh p s e = go (p == k) (sym (ap (λ (m
     go : (b : Bool) → cond b (Some v) (at old p) ≡ Some s → Takes n s.channel
     go true h = let same : v ≡ s = cc in subst (λ (x : Side T). Takes n x.channel) same fresh
     go false h = kept p s h
+
+-- before the first guest no thread was made
+pub begins-before : (job : Job) → IsBefore 1 (no_guests job).node
+begins-before job = record { next = refl; none = λ t l. at-none t; own = λ t y e. absurd (let a = sym (at-none t) ∙ e in grind (arith, a)) }

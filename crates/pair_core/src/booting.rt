@@ -193,7 +193,9 @@ impl<T: PageTable + Drop> Parts<T, RowFiles> {
         ensures frames { MatchResult result (λ _. shortage job.now images.now ≡ None) (λ e. BootLacks e (shortage job.now images.now)) }
     {
         let mut parts: Self = Self::without_guests(alloc, job, images)?;
-        parts.add_guests(alloc, job.guests.as_slice(), images)?;
-        Ok(parts)
+        match parts.add_guests(alloc, job.guests.as_slice(), images) {
+            Ok(()) => Ok(parts),
+            Err(e) => Err(e),
+        }
     }
 }
