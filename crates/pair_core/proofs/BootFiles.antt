@@ -1,13 +1,13 @@
 -- What the files of a job leave alone: descriptors, until the consoles are there.
-use Rattle.file_model.specs.Files.{Files, Name, lowest_free, made, opened, root, root_only, set_console, with_console}
+use Rattle.file_model.specs.Files.{Files, Name, made, root, with_console}
 use Rattle.file_model.specs.Paths.{add_file, child, names_of}
 use Rattle.job_model.specs.declared.job.FileLine.{FileLine}
 use Rattle.kernel_model.specs.OneKernel.{with_line}
 use Rattle.mck_word.specs.MapLaws.{at-put}
-use Rattle.mck_word.specs.Maps.{Map, at, put, no_rows}
-use Rattle.std.proofs.Common.{ap, arith, refl, sym, ◌∙◌}
+use Rattle.mck_word.specs.Maps.{Map, at, put}
+use Rattle.std.proofs.Common.{ap, arith, refl, ◌∙◌}
 use Rattle.std.proofs.lemmas.Bool.Decides.{nat_tests}
-use Rattle.std.specs.Prelude.{List, None, Option, Some, [], cond, false, fold, true, ℕ, ◌+◌, ◌<◌, ◌==◌, ◌∷◌, ◌≡◌, ◌≤◌}
+use Rattle.std.specs.Prelude.{List, None, Option, Some, [], cond, false, fold, true, ℕ, ◌+◌, ◌==◌, ◌∷◌, ◌≡◌, ◌≤◌}
 
 abbrev pub Has : Map (Map ℕ) → Files → Type 0
 Has m files = files.descriptors ≡ m

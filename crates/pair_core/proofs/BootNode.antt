@@ -17,7 +17,7 @@ use Rattle.pair_core.specs.declared.parts.Side.{Side}
 use Rattle.std.proofs.Common.{ap, arith, inl, inr, refl, subst, sym, ◌∙◌}
 use Rattle.std.proofs.lemmas.Bool.Decides.{nat_tests}
 use Rattle.std.proofs.lemmas.Bool.{cases_lt}
-use Rattle.std.specs.Prelude.{Bool, List, None, Option, Some, [], cond, false, filter, length, map, max, true, ℕ, ◌+◌, ◌==◌, ◌∷◌, ◌≡◌, ◌≤◌}
+use Rattle.std.specs.Prelude.{Bool, List, None, Some, [], cond, false, filter, length, map, max, true, ℕ, ◌+◌, ◌==◌, ◌∷◌, ◌≡◌, ◌≤◌}
 
 module _ (n : ℕ) (m : Map Thread) (none : (t : ℕ) → n ≤ t → at m t ≡ None) (own : (t : ℕ) (y : Thread) → at m t ≡ Some y → y.process ≡ t) where
   other : (t : ℕ) (y : Thread) → at m t ≡ Some y → (y.process == n) ≡ false

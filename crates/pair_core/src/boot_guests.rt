@@ -75,7 +75,12 @@ pub fn put_guest(node: &mut Node, number: u32, line: &GuestLine, image: &Image)
 }
 
 /// The side of a guest that has this space.
-pub fn guest_side<T: PageTable + Drop>(alloc: Global, space: Space<T>, rings: u32, workers: u32) -> Result<Side<T>, NoMemory>
+pub fn guest_side<T: PageTable + Drop>(
+    alloc: Global,
+    space: Space<T>,
+    rings: u32,
+    workers: u32,
+) -> Result<Side<T>, NoMemory>
     requires { workers ≤ 4 }
     ensures side { IfOk result (λ s. shown_side T.rows s ≡ record (sides.new_side rings) { lwk = record no_lwk { table = T.rows space.table } }) }
     ensures rings { IfOk result (λ s. Takes (49 + workers) s.channel) }

@@ -1,16 +1,13 @@
-use Rattle.hybrid_model.specs.Boot.{shortage_from}
 use Rattle.hybrid_model.specs.Pairs.{Pair}
 use Rattle.job_model.specs.Prepared.{HasArguments}
-use Rattle.job_model.specs.declared.job.GuestLine.{GuestLine}
-use Rattle.kernel_model.specs.OneKernel.{guests_from, guests_of}
-use Rattle.mck_word.specs.MapLaws.{at-none}
+use Rattle.kernel_model.specs.OneKernel.{guests_from}
 use Rattle.one_files.specs.Seen.{seen}
 use Rattle.pair_core.proofs.BootFolds.{boots, whole-shortage}
 use Rattle.pair_core.proofs.BootNode.{begins-before}
 use Rattle.pair_core.proofs.booting.Parts+T+RowFiles.boot.Goals as goal
-use Rattle.pair_core.specs.Booting.{BootLacks, IsBefore, no_guests, pair_with}
+use Rattle.pair_core.specs.Booting.{BootLacks, IsBefore, pair_with}
 use Rattle.pair_core.specs.Shown.{pair_of}
-use Rattle.std.proofs.Common.{All, List, ap, arith, fold, length, subst, sym, ℕ, ◌∙◌, ◌≡◌}
+use Rattle.std.proofs.Common.{All, ap, arith, fold, subst, sym, ◌∙◌, ◌≡◌}
 
 pub add_guests-requires-clause-workers : goal.add_guests-requires-clause-workers
 unfolding pair_of

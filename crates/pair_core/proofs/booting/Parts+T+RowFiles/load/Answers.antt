@@ -1,6 +1,5 @@
 use Rattle.hybrid_model.specs.Spaces.{copied_pages}
 use Rattle.kernel_model.specs.Layout.{guest_memory}
-use Rattle.kernel_model.specs.Nodes.{Node}
 use Rattle.lwk_node.specs.Shown.{node_of}
 use Rattle.lwk_tables.specs.Frames.{space}
 use Rattle.mck_word.specs.EachLaws.{each-put}
@@ -29,9 +28,9 @@ returns-clause-state g c =
     let side = c.in_ok-side.side in
     let node = c.put_guest.ensures files ∙ ap (node_with guest) (c.reserve_guest.ensures.node files) in
     let puts = ap (each shown) c.put.ensures.row
-        ∙ (each-put shown c.reserve.new.self.map c.args.number side ∙ ap (λ (m : Map (Side g.row.T.Denot)). put (each shown m) c.args.number (shown side)) c.reserve.ensures.same) in
+    ∙ (each-put shown c.reserve.new.self.map c.args.number side ∙ ap (λ (m : Map (Side g.row.T.Denot)). put (each shown m) c.args.number (shown side)) c.reserve.ensures.same) in
     let loaded = c.in_ok-space.ensures.loaded
-        ∙ ap (λ (arguments : List (List ℕ)). copied_pages (entries (guest_memory c.args.image.now arguments)) (space no_rows x.lwk.frames x.lwk.pool)) c.as_slice.ensures in
+    ∙ ap (λ (arguments : List (List ℕ)). copied_pages (entries (guest_memory c.args.image.now arguments)) (space no_rows x.lwk.frames x.lwk.pool)) c.as_slice.ensures in
     pair-more (pair_of g.T.PageTable.rows seen x) (node_of c.put_guest.new.node files) (each shown c.put.new.self.map) (shown side)
     (space (g.T.PageTable.rows c.in_ok-space.space.table) c.load_guest.new.mem c.load_guest.new.pool) guest node puts c.in_ok-side.ensures.side loaded
 
