@@ -1,4 +1,5 @@
 pub mod KernelRoom
+pub mod Booting
 pub mod Kept
 pub mod LinuxRoom
 pub mod Ready

@@ -4,6 +4,11 @@
 //! state that the two kernels reach (specs/Ready). What takes memory has its room made before.
 #![tactic(auto)]
 
+mod boot_error;
+mod boot_files;
+mod boot_guests;
+mod boot_script;
+mod booting;
 mod kernel_events;
 mod linux_may;
 mod linux_room;
@@ -14,4 +19,5 @@ mod pieces;
 mod pins;
 mod requests;
 
+pub use boot_error::BootError;
 pub use parts::{Parts, Side};
