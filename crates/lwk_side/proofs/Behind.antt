@@ -1,5 +1,4 @@
 -- A thread behind its ecall, and what a step from there comes to.
-use Rattle.file_model.specs.Files.{Files}
 use Rattle.hybrid_laws.specs.NodePrimitives.{at-change}
 use Rattle.hybrid_model.specs.Sides.{Row}
 use Rattle.hybrid_model.specs.Spaces.{written_back}
@@ -17,7 +16,7 @@ use Rattle.mck_word.specs.Maps.{Map, at}
 use Rattle.std.proofs.Common.{ap, arith, refl, subst, sym, ◌∙◌, ◌≡◌}
 use Rattle.std.proofs.lemmas.Bool.Decides.{nat_tests}
 use Rattle.std.specs.List.{list_any}
-use Rattle.std.specs.Prelude.{List, None, Option, Some, length, option_map, true, unwrap_or, ℕ, ◌+◌, ◌<◌, ◌==◌, ◌≤◌}
+use Rattle.std.specs.Prelude.{List, None, Option, Some, length, option_map, true, unwrap_or, ℕ, ◌+◌, ◌<◌, ◌==◌}
 
 abbrev pub past : Thread → Thread
 past x = record x { regs = set_pc (x.regs.pc + 4) x.regs }
@@ -41,8 +40,8 @@ may-rest before after t room step h = record {
   awake = λ files. ap (λ (k : KernelNode). list_any (λ s. s.thread == t) k.sleepers) (step files) ∙ h.awake files;
   few = λ files address.
       let path : length (waiters (node_of after files) (thread_of (node_of after files) t).process address) ≡ length (waiters (node_of before files) (thread_of (node_of before files) t).process address) =
-          ap (λ (k : KernelNode). length (waiters k (thread_of k t).process address)) (step files)
-          ∙ ap (λ (p : ℕ). length (waiters (node_of before files) p address)) (process-kept (node_of before files) t) in
+      ap (λ (k : KernelNode). length (waiters k (thread_of k t).process address)) (step files)
+      ∙ ap (λ (p : ℕ). length (waiters (node_of before files) p address)) (process-kept (node_of before files) t) in
       subst (λ (n : ℕ). n < most_threads) (sym path) (h.few files address);
 }
 

@@ -10,7 +10,7 @@ use Rattle.lwk_views.specs.Views.{Did, seen}
 use Rattle.mck_word.specs.Maps.{Map}
 use Rattle.mck_word.specs.Words.{int_argument}
 use Rattle.std.proofs.Common.{ap, arith, ne_eqb, refl, sym, ◌∙◌, ◌≡◌}
-use Rattle.std.specs.Prelude.{Bool, List, cond, false, true, ℕ, ◌%◌, ◌==◌, ◌^◌}
+use Rattle.std.specs.Prelude.{List, false, true, ℕ, ◌%◌, ◌==◌, ◌^◌}
 
 pub by-number : (rows : Map Row) (before after : Node) (pages left : List (List ℕ)) (t number n : ℕ) (a : ℕ → ℕ) (word : View → View)
     → number ≡ n → ((v : View) → one_of_calls t n a v ≡ word v)

@@ -34,7 +34,9 @@ pub fn call_number(regs: &Regs) -> u64
 pub fn arguments_of(regs: &Regs) -> [u64; 6]
     ensures { result ≡ arguments_of regs.now }
 {
-    [regs.x[10], regs.x[11], regs.x[12], regs.x[13], regs.x[14], regs.x[15]]
+    [
+        regs.x[10], regs.x[11], regs.x[12], regs.x[13], regs.x[14], regs.x[15],
+    ]
 }
 
 /// The signal of a stop that is no call, or 0.

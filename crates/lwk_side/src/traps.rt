@@ -89,13 +89,7 @@ impl Lwk {
     }
 
     /// A local call of the thread is made, behind its ecall.
-    fn calls_locally<T: PageTable>(
-        &mut self,
-        task: &Task<T>,
-        t: Tid,
-        number: u64,
-        args: &[u64; 6],
-    )
+    fn calls_locally<T: PageTable>(&mut self, task: &Task<T>, t: Tid, number: u64, args: &[u64; 6])
         requires sound { IsSound self.old (T.rows task.now.space.table) }
         requires rest { MayRest self.old.node t.0 }
         requires built { is_built_call number ≡ true }
@@ -139,13 +133,7 @@ impl Lwk {
     }
 
     /// The call that the registers of the thread name, which stands on its ecall.
-    fn call<T: PageTable>(
-        &mut self,
-        task: &mut Task<T>,
-        channel: &mut Channel,
-        t: Tid,
-        regs: &Regs,
-    )
+    fn call<T: PageTable>(&mut self, task: &mut Task<T>, channel: &mut Channel, t: Tid, regs: &Regs)
         requires sound { IsSound self.old (T.rows task.old.space.table) }
         requires wired { Wired self.old channel.old.to_linux }
         requires place { HasPlace self.old channel.old.to_linux t.0 }
@@ -200,13 +188,7 @@ impl Lwk {
     }
 
     /// The trap of a stopped thread of the process, whose kind is one that is built.
-    pub fn trap<T: PageTable>(
-        &mut self,
-        task: &mut Task<T>,
-        channel: &mut Channel,
-        p: Pid,
-        t: Tid,
-    )
+    pub fn trap<T: PageTable>(&mut self, task: &mut Task<T>, channel: &mut Channel, p: Pid, t: Tid)
         requires sound { IsSound self.old (T.rows task.old.space.table) }
         requires wired { Wired self.old channel.old.to_linux }
         requires place { HasPlace self.old channel.old.to_linux t.0 }

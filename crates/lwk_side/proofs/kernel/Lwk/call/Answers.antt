@@ -7,7 +7,7 @@ use Rattle.kernel_model.specs.Traps.{Begins, Trapped, arguments_of, past_ecall, 
 use Rattle.lwk_side.proofs.Planned.{local-done}
 use Rattle.lwk_side.proofs.kernel.Lwk.call.Goals as goal
 use Rattle.lwk_side.specs.Shown.{here_of}
-use Rattle.std.proofs.Common.{ap, sym, ◌∙◌, ◌≡◌}
+use Rattle.std.proofs.Common.{ap, sym, ◌∙◌}
 use Rattle.std.specs.Prelude.{get_or}
 
 pub returns-in-Unknown-clause-after : goal.returns-in-Unknown-clause-after

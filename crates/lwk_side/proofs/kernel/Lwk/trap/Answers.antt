@@ -7,7 +7,7 @@ use Rattle.lwk_side.proofs.Planned.{after-stop}
 use Rattle.lwk_side.proofs.kernel.Lwk.trap.Goals as goal
 use Rattle.lwk_side.specs.Built.{is_built_stop}
 use Rattle.lwk_side.specs.Shown.{here_of}
-use Rattle.std.proofs.Common.{ap, sym, ◌∙◌, ◌≡◌}
+use Rattle.std.proofs.Common.{ap, sym, ◌∙◌}
 use Rattle.std.specs.Prelude.{length}
 
 pub trap_of_stop-requires-clause-built : goal.trap_of_stop-requires-clause-built

@@ -11,8 +11,8 @@ use Rattle.lwk_side.proofs.kernel.Lwk.trap_of_stop.Goals as goal
 use Rattle.lwk_side.specs.Built.{is_built_call, is_built_stop}
 use Rattle.lwk_side.specs.Shown.{here_of}
 use Rattle.mck_word.specs.declared.Regs.{Regs}
-use Rattle.std.proofs.Common.{ap, sym, ◌∙◌, ◌≡◌}
-use Rattle.std.specs.Prelude.{Some, length}
+use Rattle.std.proofs.Common.{ap, sym, ◌∙◌}
+use Rattle.std.specs.Prelude.{Some}
 
 pub call-requires-clause-built : goal.call-requires-clause-built
 call-requires-clause-built g c =
