@@ -10,6 +10,7 @@ mod intake;
 mod interrupts;
 mod kernel;
 mod local_calls;
+mod reaps;
 mod replies;
 mod rounds;
 mod runs;
