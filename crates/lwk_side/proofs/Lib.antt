@@ -2,3 +2,6 @@ mod Slotted
 mod Viewing
 mod Calling
 mod Marking
+mod Dispatched
+mod Behind
+mod Planned

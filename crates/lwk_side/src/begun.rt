@@ -34,9 +34,10 @@ impl Lwk {
         requires room { 1 ≤ channel.old.book.spare }
         requires callers { 1 ≤ task.old.callers.spare }
         requires more { channel.old.book.requests.next < 2 ^ 64 - 1 }
-        ensures event { (r : Rest) (phases : List Phase) → here_of self.new (T.rows task.new.space.table) task.new channel.new r
+        ensures after { (r : Rest) (phases : List Phase) → here_of self.new (T.rows task.new.space.table) task.new channel.new r
             ≡ (let h = here_of self.old (T.rows task.old.space.table) task.old channel.old r in
             with_node (with_side h (begin_call (ring_of h t.0) t.0 (starting number args.now phases) h.side)) (set_does t.0 Called h.node)) }
+        ensures cores { self.new.cores ≡ self.old.cores }
         ensures frames { KeepsFrames self.old self.new }
         ensures rings { KeepsRings channel.old channel.new }
     {

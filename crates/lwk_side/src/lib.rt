@@ -6,13 +6,17 @@
 
 mod answers;
 mod begun;
+mod intake;
 mod interrupts;
 mod kernel;
+mod local_calls;
+mod reaps;
 mod replies;
 mod rounds;
 mod runs;
 mod script;
 mod task;
+mod traps;
 
 pub use answers::{answer_to, may_answer};
 pub use kernel::{Last, Lwk};

@@ -5,3 +5,4 @@ pub mod Filled
 pub mod OnePage
 pub mod RowSets
 pub mod WrittenBack
+mod Lowest

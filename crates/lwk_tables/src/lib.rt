@@ -9,6 +9,7 @@
 
 mod bytes;
 mod changes;
+mod clears;
 mod fills;
 mod laws;
 

@@ -1,4 +1,3 @@
-use Rattle.hybrid_model.specs.Pairs.{Here}
 use Rattle.isa_model.specs.Instr.{Outcome}
 use Rattle.kernel_model.specs.Nodes.{no_thread, thread_of}
 use Rattle.lwk_node.specs.Shown.{node_of}

@@ -1,0 +1,31 @@
+-- A local call by its number.
+use Rattle.hybrid_model.specs.Sides.{Row}
+use Rattle.kernel_model.specs.Calls.{one_of_calls}
+use Rattle.kernel_model.specs.CloneCalls.{wait4}
+use Rattle.kernel_model.specs.Signals.{View}
+use Rattle.lwk_node.specs.declared.tables.Node.{Node}
+use Rattle.lwk_side.specs.Built.{is_built_call}
+use Rattle.lwk_views.proofs.Doing.{did_as}
+use Rattle.lwk_views.specs.Views.{Did, seen}
+use Rattle.mck_word.specs.Maps.{Map}
+use Rattle.mck_word.specs.Words.{int_argument}
+use Rattle.std.proofs.Common.{ap, arith, ne_eqb, refl, sym, ◌∙◌, ◌≡◌}
+use Rattle.std.specs.Prelude.{List, false, true, ℕ, ◌%◌, ◌==◌, ◌^◌}
+
+pub by-number : (rows : Map Row) (before after : Node) (pages left : List (List ℕ)) (t number n : ℕ) (a : ℕ → ℕ) (word : View → View)
+    → number ≡ n → ((v : View) → one_of_calls t n a v ≡ word v)
+    → Did rows before pages after left word → Did rows before pages after left (one_of_calls t number a)
+by-number rows before after pages left t number n a word e h d =
+    did_as rows pages before after left word (one_of_calls t number a) (λ files. ap (λ k. one_of_calls t k a (seen rows before pages files)) e ∙ h (seen rows before pages files)) d
+
+-- a number whose call isn't built is another
+pub other : (number k : ℕ) → is_built_call k ≡ false → is_built_call number ≡ true → (number == k) ≡ false
+other number k not-built built = ne_eqb number k (λ e. absurd (grind (arith, sym not-built ∙ ap is_built_call (sym e) ∙ built)))
+
+-- a built call with none of the numbers before is the wait for a child
+pub last-call : (t number : ℕ) (a : ℕ → ℕ) (v : View) → is_built_call number ≡ true
+    → (number == 93) ≡ false → (number == 94) ≡ false → (number == 96) ≡ false → (number == 98) ≡ false → (number == 99) ≡ false
+    → (number == 124) ≡ false → (number == 172) ≡ false → (number == 173) ≡ false → (number == 178) ≡ false
+    → one_of_calls t number a v ≡ wait4 t (int_argument (a 0)) (a 1) (a 2 % 2 ^ 32) (a 3) v
+last-call t number a v built e93 e94 e96 e98 e99 e124 e172 e173 e178 =
+    rw (e93, e94, e96, e98, e99, e124, other number 129 refl built, other number 131 refl built, other number 134 refl built, other number 135 refl built, other number 136 refl built, other number 139 refl built, e172, e173, e178) refl

@@ -1,0 +1,40 @@
+use Rattle.file_model.specs.Files.{root_only}
+use Rattle.hybrid_model.specs.Lwk.{trapped, view_here}
+use Rattle.isa_model.specs.Registers.{reg}
+use Rattle.isa_model.specs.declared.stops.Stop.{Stop}
+use Rattle.kernel_model.specs.Nodes.{thread_of}
+use Rattle.kernel_model.specs.Plans.{plan}
+use Rattle.kernel_model.specs.Traps.{Trapped, arguments_of, past_ecall, planned, trap_of_stop}
+use Rattle.lwk_node.specs.Shown.{node_of}
+use Rattle.lwk_side.proofs.Planned.{raises-signal, signal-there}
+use Rattle.lwk_side.proofs.kernel.Lwk.trap_of_stop.Goals as goal
+use Rattle.lwk_side.specs.Built.{is_built_call, is_built_stop}
+use Rattle.lwk_side.specs.Shown.{here_of}
+use Rattle.mck_word.specs.declared.Regs.{Regs}
+use Rattle.std.proofs.Common.{ap, sym, ◌∙◌}
+use Rattle.std.specs.Prelude.{Some}
+
+pub call-requires-clause-built : goal.call-requires-clause-built
+call-requires-clause-built g c =
+    let regs = (thread_of (node_of c.args.self.now.node root_only) c.args.t.0).regs in
+    ap (λ (x : Regs). is_built_call (reg x 17)) (c.regs-regs.ensures root_only)
+    ∙ ap (λ (s : Stop). is_built_stop (reg regs 17) (Some s)) (sym c.in-Ecall.is) ∙ c.requires.built root_only
+
+pub raises_signal-requires-clause-signal : goal.raises_signal-requires-clause-signal
+raises_signal-requires-clause-signal g c =
+    signal-there (reg (thread_of (node_of c.args.self.now.node root_only) c.args.t.0).regs 17) c.args.stop (c.requires.built root_only) (λ e. absurd (c.in_default.not-Ecall e))
+
+pub returns-in-Ecall-clause-after : goal.returns-in-Ecall-clause-after
+returns-in-Ecall-clause-after g c = λ r p free.
+    let h = here_of c.args.self.now (g.T.PageTable.rows c.args.task.now.space.table) c.args.task.now c.args.channel.now r in
+    let t = c.args.t.0 in
+    c.call.ensures.after r p free
+    ∙ ap (λ (x : Regs). trapped p t (planned t free x (past_ecall t (view_here h)) (plan (reg x 17) (arguments_of x))) h) (c.regs-regs.ensures r.files)
+    ∙ ap (λ (s : Stop). trapped p t (trap_of_stop t free (view_here h) (Some s)) h) (sym c.in-Ecall.is)
+
+pub returns-in_default-clause-after : goal.returns-in_default-clause-after
+returns-in_default-clause-after g c = λ r p free.
+    let h = here_of c.args.self.now (g.T.PageTable.rows c.args.task.now.space.table) c.args.task.now c.args.channel.now r in
+    let t = c.args.t.0 in
+    c.raises_signal.ensures.after c.args.channel.now r
+    ∙ ap (λ (x : Trapped). trapped p t x h) (sym (raises-signal t free (reg (thread_of (node_of c.args.self.now.node root_only) t).regs 17) (view_here h) c.args.stop (c.requires.built root_only) (λ e. absurd (c.in_default.not-Ecall e))))

@@ -1,0 +1,107 @@
+// What a trap makes of the node and the frames, where it is done at once.
+ghost use Rattle.file_model.specs.Errno.{ENOSYS};
+ghost use Rattle.isa_model.specs.Registers.{reg};
+ghost use Rattle.kernel_model.specs.Calls.{one_of_calls};
+ghost use Rattle.kernel_model.specs.LocalCalls.{answers};
+ghost use Rattle.kernel_model.specs.Signals.{on_node, raised, signal_of_stop};
+ghost use Rattle.kernel_model.specs.Traps.{arguments_of};
+ghost use Rattle.lwk_side.specs.Built.{is_built_call};
+ghost use Rattle.lwk_side.specs.Resting.{MayRest};
+ghost use Rattle.lwk_tables.specs.Rows.{FramesApart, FramesIn};
+ghost use Rattle.lwk_views.specs.Views.{Did, DidAlone};
+ghost use Rattle.mck_word.specs.Words.{refused};
+ghost use Rattle.std.specs.Prelude.{◌≡◌, ◌≤◌, get_or, true};
+
+use call_plan::arguments::int;
+use frame_mem::FrameMem;
+use isa_model::Stop;
+use lwk_node::Node;
+use lwk_tables::Space;
+use mck_word::{Regs, Tid};
+use page_map::PageTable;
+
+// The negated error number of a call that isn't known.
+const NO_CALL: i64 = -38;
+
+/// The number of the call that the registers name.
+pub fn call_number(regs: &Regs) -> u64
+    ensures { result ≡ reg regs.now 17 }
+{
+    regs.x[17]
+}
+
+/// The arguments of the call that the registers name.
+pub fn arguments_of(regs: &Regs) -> [u64; 6]
+    ensures { result ≡ arguments_of regs.now }
+{
+    [
+        regs.x[10], regs.x[11], regs.x[12], regs.x[13], regs.x[14], regs.x[15],
+    ]
+}
+
+/// The signal of a stop that is no call, or 0.
+fn signal_of(stop: Stop) -> u32
+    ensures is { result ≡ signal_of_stop stop }
+    ensures most { result ≤ 64 }
+{
+    match stop {
+        Stop::On | Stop::Ecall => 0,
+        Stop::Break => 5,
+        Stop::Illegal => 4,
+        Stop::Misaligned => 7,
+        Stop::Fault(_) => 11,
+    }
+}
+
+/// The stop of the thread raises its signal.
+pub fn raises(node: &mut Node, t: Tid, stop: Stop)
+    requires { 1 ≤ signal_of_stop stop }
+    ensures { DidAlone node.old node.new (on_node (raised t.0 (signal_of_stop stop))) }
+{
+    node.raised(t, signal_of(stop));
+}
+
+/// A call that isn't known is refused.
+pub fn refuses_unknown(node: &mut Node, t: Tid)
+    ensures { DidAlone node.old node.new (answers t.0 (refused ENOSYS)) }
+{
+    node.answered(t, NO_CALL);
+}
+
+/// A local call of the thread, which stands behind its ecall.
+pub fn local_call<T: PageTable>(
+    node: &mut Node,
+    space: &Space<T>,
+    mem: &mut FrameMem,
+    t: Tid,
+    number: u64,
+    args: &[u64; 6],
+)
+    requires frames { FramesIn (T.rows space.now.table) mem.old }
+    requires apart { FramesApart (T.rows space.now.table) }
+    requires rest { MayRest node.old t.0 }
+    requires built { is_built_call number ≡ true }
+    ensures { Did (T.rows space.now.table) node.old mem.old node.new mem.new (one_of_calls t.0 number (λ k. get_or args.now k 0)) }
+{
+    match number {
+        93 => lwk_calls::exits(node, space, mem, t, (args[0] % 256) as u8),
+        94 => lwk_calls::exits_group(node, t, (args[0] % 256) as u8),
+        96 => lwk_calls::sets_clear_address(node, t, args[0]),
+        98 => lwk_calls::futex(node, space, mem, t, args[0], args[1], args[2], args[3]),
+        99 => lwk_calls::sets_robust_list(node, t, args[1]),
+        124 => lwk_calls::answers_zero(node, t),
+        172 => lwk_calls::getpid(node, t),
+        173 => lwk_calls::getppid(node, t),
+        178 => lwk_calls::gettid(node, t),
+        _ => lwk_calls::wait4(
+            node,
+            space,
+            mem,
+            t,
+            int(args[0]),
+            args[1],
+            (args[2] % (1 << 32)) as u32,
+            args[3],
+        ),
+    }
+}

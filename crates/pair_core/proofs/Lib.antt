@@ -1,0 +1,15 @@
+pub mod BootFolds
+pub mod BootNode
+pub mod BootLists
+pub mod BootFiles
+pub mod Facts
+pub mod Found
+pub mod KernelFacts
+pub mod Copied
+pub mod Fetched
+pub mod FewCalls
+pub mod Linux
+pub mod MadeRoom
+pub mod MayLinux
+pub mod Taken
+pub mod Posting
