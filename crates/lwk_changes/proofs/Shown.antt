@@ -95,3 +95,10 @@ module _ (rows : Map Row) (m : Memory) (h : Shows rows m) where
         let bad = sym t ∙ f in
         cc
       )
+
+  pub same-shown : (k : ℕ) → is_some (at m k) ≡ is_some (at rows k)
+  same-shown k = go (at rows k) refl
+    where
+      go : (w : Option Row) → at rows k ≡ w → is_some (at m k) ≡ is_some (at rows k)
+      go None i = ap is_some (shown-absent k i) ∙ sym (ap is_some i)
+      go (Some w) i = let there = shown-there k (ap is_some i) in ap is_some there.1 ∙ sym (ap is_some i)

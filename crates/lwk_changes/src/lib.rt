@@ -8,25 +8,29 @@
 
 mod changes;
 mod counts;
+mod gaps;
 
 ghost use Rattle.isa_model.specs.Memory.{Memory};
 ghost use Rattle.kernel_model.specs.MemoryCalls.{decide, refusal_at_end};
 ghost use Rattle.kernel_model.specs.Nodes.{Process};
 ghost use Rattle.lwk_changes.specs.Conditions.{ClosesBy};
 ghost use Rattle.lwk_tables.specs.Lacks.{memory};
-ghost use Rattle.std.specs.Prelude.{◌≡◌, ◌<◌, ◌^◌, ℕ, List, None, false};
+ghost use Rattle.lwk_tables.specs.Spaced.{Agree};
+ghost use Rattle.std.specs.Option.{ForSome};
+ghost use Rattle.std.specs.Prelude.{◌≡◌, ◌<◌, ◌^◌, ℕ, List, true};
 ghost use Rattle.vm_calls.specs.Facts.{Describes, DescribesAtEnd, decision, refusal};
 ghost use Rattle.vm_calls.specs.Plans.{looks_for_gap};
 
 pub use changes::{make, make_room_for};
 use counts::{count_present, lessens_any, rights_of};
+use gaps::gap_for;
 use ikc_ring::Call;
 use kernel_model::Change;
 use lwk_tables::Space;
 use page_map::PageTable;
 use vm_calls::{AtEnd, Facts, VmPlan, call_range, change_range};
 
-/// What the call has to know of the process's memory. The call looks for no gap.
+/// What the call has to know of the process's memory. Where it looks for a gap, the mapped pages are those of the table.
 pub fn facts_for_call<T: PageTable>(
     own: &Space<T>,
     brk: u64,
@@ -34,11 +38,11 @@ pub fn facts_for_call<T: PageTable>(
     free: u64,
     call: &Call,
 ) -> Facts
-    requires { looks_for_gap free call.now.number call.now.args ≡ false }
+    requires { looks_for_gap free call.now.number call.now.args ≡ true → Agree (T.rows own.now.table) own.now.areas }
     ensures brk { result.brk ≡ brk }
     ensures base { result.base ≡ base }
     ensures free { result.free ≡ free }
-    ensures gap { result.gap ≡ None }
+    ensures gap { ForSome result.gap (λ low. low < 2 ^ 52) }
     ensures describes { (p : Process) (m : Memory) (pages : List (List ℕ)) → brk ≡ p.program_break → base ≡ p.heap_base → m ≡ memory (T.rows own.now.table) pages → Describes result call.now.number call.now.args p m }
 {
     let range = call_range(brk, call);
@@ -47,7 +51,7 @@ pub fn facts_for_call<T: PageTable>(
         brk,
         base,
         free,
-        gap: None,
+        gap: gap_for(own, free, call),
         present: count_present(own.table(), &range),
         lessens: call.number == 226 && lessens_any(own.table(), &range, rights),
     }
@@ -75,7 +79,7 @@ pub fn facts_at_end<T: PageTable>(
     }
 }
 
-/// What a call decides that looks for no gap. A call of another number than 215, 222 and 226 is a brk.
+/// What a call decides. Where it looks for a gap, the mapped pages are those of the table. A call of another number than 215, 222 and 226 is a brk.
 pub fn decide<T: PageTable>(
     own: &Space<T>,
     brk: u64,
@@ -85,7 +89,7 @@ pub fn decide<T: PageTable>(
 ) -> VmPlan
     requires small { brk < 2 ^ 63 }
     requires heap { base < 2 ^ 63 }
-    requires gap { looks_for_gap free call.now.number call.now.args ≡ false }
+    requires agree { looks_for_gap free call.now.number call.now.args ≡ true → Agree (T.rows own.now.table) own.now.areas }
     ensures closing { ClosesBy base result }
     ensures decides { (p : Process) (m : Memory) (pages : List (List ℕ)) → brk ≡ p.program_break → base ≡ p.heap_base → m ≡ memory (T.rows own.now.table) pages → decision result ≡ decide p m free call.now.number call.now.args }
 {

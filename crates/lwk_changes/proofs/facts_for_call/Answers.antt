@@ -15,7 +15,7 @@ returns-then-call-eq226-clause-describes g c = λ p m pages b h e.
       base = h;
       present = c.count_present.ensures m shows ∙ ap (λ r. count_present m r) c.call_range-range.ensures;
       lessened = λ _. c.lessens_any.ensures m shows-then ∙ (λ j. any_lessened m (c.call_range-range.ensures j) (c.rights_of-rights.ensures j));
-      gap = λ l. absurd (let t = sym l ∙ c.requires in grind (arith, t));
+      gap = c.gap_for.ensures.gap m (memory-shown (g.T.PageTable.rows c.args.own.now.table) pages m e);
     }
 
 pub returns-else-call-eq226-clause-describes : goal.returns-else-call-eq226-clause-describes
@@ -26,5 +26,5 @@ returns-else-call-eq226-clause-describes g c = λ p m pages b h e.
       base = h;
       present = c.count_present.ensures m shows ∙ ap (λ r. count_present m r) c.call_range-range.ensures;
       lessened = λ l. absurd (c.if-call-eq226.false (let n : c.args.call.now.number ≡ 226 = grind (arith, nat_tests, l) in n));
-      gap = λ l. absurd (let t = sym l ∙ c.requires in grind (arith, t));
+      gap = c.gap_for.ensures.gap m (memory-shown (g.T.PageTable.rows c.args.own.now.table) pages m e);
     }
