@@ -126,12 +126,14 @@ module _ (m : Memory) (covered : ℕ → Bool) (agree : (k : ℕ) → covered k 
       let parts = three (nat_le high 0x3f00000) (nat_le (0x10 + n) high) (count_present m (gap_below n high) == 0) e in
       let low : 0x10 + n ≤ high = (let t = parts.1 in grind (arith, nat_tests, t)) in
       let top : high ≤ 0x3f00000 = (let t = parts.0 in grind (arith, nat_tests, t)) in
-      let zero-is : count_present m (gap_below n high) ≡ 0 = (let t = parts.2 in grind (arith, nat_tests, t)) in
-      (record {
-        from = omega (arith, low);
-        to = omega (arith, low, top);
-        free = λ p a b. agree p ∙ ap is_some (count-none m (gap_below n high) zero-is p (inside p high a (omega (arith, b, low))));
-      }, omega (arith, low))
+      let zero-is : count_present m (gap_below n high) ≡ 0 = (let t = parts.2 in grind (arith, nat_tests, t)) in (
+        record {
+          from = omega (arith, low);
+          to = omega (arith, low, top);
+          free = λ p a b. agree p ∙ ap is_some (count-none m (gap_below n high) zero-is p (inside p high a (omega (arith, b, low))));
+        },
+        omega (arith, low),
+      )
     where
       inside : (p high : ℕ) → high - n ≤ p → p < high → in_range (range (high - n) high) p ≡ true
       inside p high a b = grind (arith, nat_tests, a, b)
@@ -171,18 +173,18 @@ module _ (m : Memory) (covered : ℕ → Bool) (agree : (k : ℕ) → covered k 
       at-page : (o : Option Page) → at m (low + n) ≡ o → low + n ≢ 0x3f00000 → HasNumber (low + n) (keys m)
       at-page (Some x) e below = key-has (low + n) x e
       at-page None e below = absurd (
-        let t = g.to in
-        let f = g.from in
-        let l = most (low + 1) (record {
-          from = omega (arith, f);
-          to = omega (arith, t, below);
-          free = λ p a b. elim (cases_eq p (low + n)) [
-            | inl same ↦ agree p ∙ ap is_some (ap (at m) same ∙ e)
-            | inr other ↦ g.free p (omega (arith, a)) (omega (arith, b, other))
-          ];
-        }) in
-        omega (arith, l)
-      )
+          let t = g.to in
+          let f = g.from in
+          let l = most (low + 1) (record {
+            from = omega (arith, f);
+            to = omega (arith, t, below);
+            free = λ p a b. elim (cases_eq p (low + n)) [
+              | inl same ↦ agree p ∙ ap is_some (ap (at m) same ∙ e)
+              | inr other ↦ g.free p (omega (arith, a)) (omega (arith, b, other))
+            ];
+          }) in
+          omega (arith, l)
+          )
 
   -- the highest gap between the covered pages, by its end, is the definition's
   pub highest-is : (o : Option ℕ) → IsHighestGap covered n o → option_map (λ low. low + n) o ≡ highest_gap m n

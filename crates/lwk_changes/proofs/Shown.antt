@@ -88,13 +88,13 @@ module _ (rows : Map Row) (m : Memory) (h : Shows rows m) where
       go : (b : Bool) → any_lessened m r rights ≡ b → any_lessened m r rights ≡ true
       go true e = e
       go false e = absurd (
-        let x = shown-there k there in
-        let f = no-row (λ page (y : Page). in_range r page && lessens y.rights rights) m e k x.0 x.1 in
-        let g = sym (lessened-shown rights k x.0 x.1) ∙ less in
-        let t : (in_range r k && lessens x.0.rights rights) ≡ true = rw (inside, g) refl in
-        let bad = sym t ∙ f in
-        cc
-      )
+          let x = shown-there k there in
+          let f = no-row (λ page (y : Page). in_range r page && lessens y.rights rights) m e k x.0 x.1 in
+          let g = sym (lessened-shown rights k x.0 x.1) ∙ less in
+          let t : (in_range r k && lessens x.0.rights rights) ≡ true = rw (inside, g) refl in
+          let bad = sym t ∙ f in
+          cc
+          )
 
   pub same-shown : (k : ℕ) → is_some (at m k) ≡ is_some (at rows k)
   same-shown k = go (at rows k) refl

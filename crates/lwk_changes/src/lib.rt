@@ -80,13 +80,7 @@ pub fn facts_at_end<T: PageTable>(
 }
 
 /// What a call decides. Where it looks for a gap, the mapped pages are those of the table. A call of another number than 215, 222 and 226 is a brk.
-pub fn decide<T: PageTable>(
-    own: &Space<T>,
-    brk: u64,
-    base: u64,
-    free: u64,
-    call: &Call,
-) -> VmPlan
+pub fn decide<T: PageTable>(own: &Space<T>, brk: u64, base: u64, free: u64, call: &Call) -> VmPlan
     requires small { brk < 2 ^ 63 }
     requires heap { base < 2 ^ 63 }
     requires agree { looks_for_gap free call.now.number call.now.args ≡ true → Agree (T.rows own.now.table) own.now.areas }
@@ -133,11 +127,17 @@ mod tests {
             number: 215,
             args: [0x2_0000, 0x2000, 0, 0, 0, 0],
         };
-        assert_eq!(rt; decide(&own, 0x1_2345, 0x1_2000, 4, &unmap), VmPlan::Reply(0));
+        assert_eq!(rt;
+            decide(&own, 0x1_2345, 0x1_2000, 4, &unmap),
+            VmPlan::Reply(0)
+        );
         // two pages want two frames
         let map = Change::Map { range, rights };
         assert_eq!(rt; finish(&own, 0x1_2345, 0x1_2000, 2, &map), AtEnd::Make);
-        assert_eq!(rt; finish(&own, 0x1_2345, 0x1_2000, 1, &map), AtEnd::Reply(-12));
+        assert_eq!(rt;
+            finish(&own, 0x1_2345, 0x1_2000, 1, &map),
+            AtEnd::Reply(-12)
+        );
         let change = Change::Unmap(range);
         make_room_for(&mut own, 0x1_2345, &change).expect(&rt, "memory");
         make(&mut own, &mut mem, &mut pool, 0x1_2345, &change);
