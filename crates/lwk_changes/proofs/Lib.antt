@@ -1,0 +1,4 @@
+pub mod Counting
+pub mod HighestGap
+pub mod Making
+pub mod Shown

@@ -1,0 +1,3 @@
+pub mod Conditions
+pub mod GoAhead
+pub mod Shows

@@ -1,0 +1,146 @@
+//! The memory calls of a process over its space: what one decides, what is decided again at the end of a round, and its change.
+//!
+//! Promises: `decide` is `decide` of the definitions and `finish` is `refusal_at_end` (kernel_model's specs/MemoryCalls), for each process
+//! with the given break and heap's base, and the memory that its table shows; `make` leaves the space, the frames and the free ones as
+//! `after_effect` of hybrid_model's specs/Spaces does. Pages are counted and compared in one walk over those that are present. No call
+//! but `make_room_for` takes memory or fails. What has to hold before a change stands in specs/Conditions.
+#![tactic(auto)]
+
+mod changes;
+mod counts;
+mod gaps;
+
+ghost use Rattle.isa_model.specs.Memory.{Memory};
+ghost use Rattle.kernel_model.specs.MemoryCalls.{decide, refusal_at_end};
+ghost use Rattle.kernel_model.specs.Nodes.{Process};
+ghost use Rattle.lwk_changes.specs.Conditions.{ClosesBy};
+ghost use Rattle.lwk_tables.specs.Lacks.{memory};
+ghost use Rattle.lwk_tables.specs.Spaced.{Agree};
+ghost use Rattle.std.specs.Option.{ForSome};
+ghost use Rattle.std.specs.Prelude.{◌≡◌, ◌<◌, ◌^◌, ℕ, List, true};
+ghost use Rattle.vm_calls.specs.Facts.{Describes, DescribesAtEnd, decision, refusal};
+ghost use Rattle.vm_calls.specs.Plans.{looks_for_gap};
+
+pub use changes::{make, make_room_for};
+use counts::{count_present, lessens_any, rights_of};
+use gaps::gap_for;
+use ikc_ring::Call;
+use kernel_model::Change;
+use lwk_tables::Space;
+use page_map::PageTable;
+use vm_calls::{AtEnd, Facts, VmPlan, call_range, change_range};
+
+/// What the call has to know of the process's memory. Where it looks for a gap, the mapped pages are those of the table.
+pub fn facts_for_call<T: PageTable>(
+    own: &Space<T>,
+    brk: u64,
+    base: u64,
+    free: u64,
+    call: &Call,
+) -> Facts
+    requires { looks_for_gap free call.now.number call.now.args ≡ true → Agree (T.rows own.now.table) own.now.areas }
+    ensures brk { result.brk ≡ brk }
+    ensures base { result.base ≡ base }
+    ensures free { result.free ≡ free }
+    ensures gap { ForSome result.gap (λ low. low < 2 ^ 52) }
+    ensures describes { (p : Process) (m : Memory) (pages : List (List ℕ)) → brk ≡ p.program_break → base ≡ p.heap_base → m ≡ memory (T.rows own.now.table) pages → Describes result call.now.number call.now.args p m }
+{
+    let range = call_range(brk, call);
+    let rights = rights_of(call.args[2] % (1 << 32));
+    Facts {
+        brk,
+        base,
+        free,
+        gap: gap_for(own, free, call),
+        present: count_present(own.table(), &range),
+        lessens: call.number == 226 && lessens_any(own.table(), &range, rights),
+    }
+}
+
+/// What the end of a round over a change has to know of the process's memory.
+pub fn facts_at_end<T: PageTable>(
+    own: &Space<T>,
+    brk: u64,
+    base: u64,
+    free: u64,
+    change: &Change,
+) -> Facts
+    ensures brk { result.brk ≡ brk }
+    ensures free { result.free ≡ free }
+    ensures describes { (p : Process) (m : Memory) (pages : List (List ℕ)) → brk ≡ p.program_break → m ≡ memory (T.rows own.now.table) pages → DescribesAtEnd result change.now p m }
+{
+    Facts {
+        brk,
+        base,
+        free,
+        gap: None,
+        present: count_present(own.table(), &change_range(brk, change)),
+        lessens: false,
+    }
+}
+
+/// What a call decides. Where it looks for a gap, the mapped pages are those of the table. A call of another number than 215, 222 and 226 is a brk.
+pub fn decide<T: PageTable>(own: &Space<T>, brk: u64, base: u64, free: u64, call: &Call) -> VmPlan
+    requires small { brk < 2 ^ 63 }
+    requires heap { base < 2 ^ 63 }
+    requires agree { looks_for_gap free call.now.number call.now.args ≡ true → Agree (T.rows own.now.table) own.now.areas }
+    ensures closing { ClosesBy base result }
+    ensures decides { (p : Process) (m : Memory) (pages : List (List ℕ)) → brk ≡ p.program_break → base ≡ p.heap_base → m ≡ memory (T.rows own.now.table) pages → decision result ≡ decide p m free call.now.number call.now.args }
+{
+    vm_calls::decide(&facts_for_call(own, brk, base, free, call), call)
+}
+
+/// What is decided at the end of a round over a change.
+pub fn finish<T: PageTable>(
+    own: &Space<T>,
+    brk: u64,
+    base: u64,
+    free: u64,
+    change: &Change,
+) -> AtEnd
+    requires { brk < 2 ^ 63 }
+    ensures { (p : Process) (m : Memory) (pages : List (List ℕ)) → brk ≡ p.program_break → m ≡ memory (T.rows own.now.table) pages → refusal result ≡ refusal_at_end p m free change.now }
+{
+    vm_calls::finish(&facts_at_end(own, brk, base, free, change), change)
+}
+
+#[cfg(test)]
+mod tests {
+    use super::*;
+    use frame_mem::FrameMem;
+    use frame_pool::FramePool;
+    use mck_flags::Rights;
+    use mck_word::{NoMemory, PageRange, Req, Tid};
+    use page_map::PageMap;
+
+    #[test]
+    fn an_empty_space(rt: HostRuntime) {
+        let made: Result<PageMap, NoMemory> = PageTable::empty(rt.alloc());
+        let mut own = Space::new(rt.alloc(), made.expect(&rt, "memory"));
+        let mut mem = FrameMem::new(rt.alloc(), 4).expect(&rt, "memory");
+        let mut pool = FramePool::new(rt.alloc(), 4).expect(&rt, "memory");
+        let range = PageRange { lo: 0x20, hi: 0x22 };
+        let rights = Rights(3);
+        let unmap = Call {
+            q: Req(1),
+            tid: Tid(1),
+            number: 215,
+            args: [0x2_0000, 0x2000, 0, 0, 0, 0],
+        };
+        assert_eq!(rt;
+            decide(&own, 0x1_2345, 0x1_2000, 4, &unmap),
+            VmPlan::Reply(0)
+        );
+        // two pages want two frames
+        let map = Change::Map { range, rights };
+        assert_eq!(rt; finish(&own, 0x1_2345, 0x1_2000, 2, &map), AtEnd::Make);
+        assert_eq!(rt;
+            finish(&own, 0x1_2345, 0x1_2000, 1, &map),
+            AtEnd::Reply(-12)
+        );
+        let change = Change::Unmap(range);
+        make_room_for(&mut own, 0x1_2345, &change).expect(&rt, "memory");
+        make(&mut own, &mut mem, &mut pool, 0x1_2345, &change);
+        assert_eq!(rt; own.table().get(0x20), None);
+    }
+}
