@@ -14,7 +14,7 @@ ghost use Rattle.kernel_model.specs.Progress.{starting};
 ghost use Rattle.kernel_model.specs.Signals.{on_node, raised, signal_of_stop};
 ghost use Rattle.kernel_model.specs.Traps.{Begins, arguments_of as arguments_in, past_ecall, planned, trap_of_stop};
 ghost use Rattle.lwk_node.specs.Shown.{node_of};
-ghost use Rattle.lwk_side.specs.Built.{is_built_call, is_built_stop, is_built_trap};
+ghost use Rattle.lwk_side.specs.Built.{begins_at, begins_call, is_built_call, is_built_stop, is_built_trap, names_delegated};
 ghost use Rattle.lwk_side.specs.Resting.{MayRest};
 ghost use Rattle.lwk_side.specs.Shown.{Rest, here_of};
 ghost use Rattle.lwk_side.specs.Sound.{IsSound, KeepsFrames, KeepsRings};
@@ -141,7 +141,7 @@ impl Lwk {
     fn call<T: PageTable>(&mut self, task: &mut Task<T>, channel: &mut Channel, t: Tid, regs: &Regs)
         requires sound { IsSound self.old (T.rows task.old.space.table) }
         requires wired { Wired self.old channel.old.to_linux }
-        requires place { HasPlace self.old channel.old.to_linux t.0 }
+        requires place { names_delegated regs.now ≡ true → HasPlace self.old channel.old.to_linux t.0 }
         requires room { 1 ≤ channel.old.book.spare }
         requires callers { 1 ≤ task.old.callers.spare }
         requires more { channel.old.book.requests.next < 2 ^ 64 - 1 }
@@ -174,7 +174,7 @@ impl Lwk {
     )
         requires sound { IsSound self.old (T.rows task.old.space.table) }
         requires wired { Wired self.old channel.old.to_linux }
-        requires place { HasPlace self.old channel.old.to_linux t.0 }
+        requires place { (files : Files) → begins_at (thread_of (node_of self.old.node files) t.0).regs (Some stop) ≡ true → HasPlace self.old channel.old.to_linux t.0 }
         requires room { 1 ≤ channel.old.book.spare }
         requires callers { 1 ≤ task.old.callers.spare }
         requires more { channel.old.book.requests.next < 2 ^ 64 - 1 }
@@ -200,7 +200,7 @@ impl Lwk {
     pub fn trap<T: PageTable>(&mut self, task: &mut Task<T>, channel: &mut Channel, p: Pid, t: Tid)
         requires sound { IsSound self.old (T.rows task.old.space.table) }
         requires wired { Wired self.old channel.old.to_linux }
-        requires place { HasPlace self.old channel.old.to_linux t.0 }
+        requires place { (files : Files) → begins_call (node_of self.old.node files) t.0 ≡ true → HasPlace self.old channel.old.to_linux t.0 }
         requires room { 1 ≤ channel.old.book.spare }
         requires callers { 1 ≤ task.old.callers.spare }
         requires more { channel.old.book.requests.next < 2 ^ 64 - 1 }

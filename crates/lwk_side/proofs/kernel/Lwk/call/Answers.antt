@@ -6,6 +6,7 @@ use Rattle.kernel_model.specs.Progress.{starting}
 use Rattle.kernel_model.specs.Traps.{Begins, Trapped, arguments_of, past_ecall, planned}
 use Rattle.lwk_side.proofs.Planned.{local-done}
 use Rattle.lwk_side.proofs.kernel.Lwk.call.Goals as goal
+use Rattle.lwk_side.specs.Built.{is_delegated}
 use Rattle.lwk_side.specs.Shown.{here_of}
 use Rattle.std.proofs.Common.{ap, sym, ◌∙◌}
 use Rattle.std.specs.Prelude.{get_or}
@@ -40,3 +41,6 @@ returns-in-Delegated-clause-after g c = λ r p free.
     ∙ (λ i. trapped p t (Begins (past_ecall t (view_here h)).node (starting (c.call_number-number.ensures i) (c.arguments_of-args.ensures i) phases)) h)
     ∙ ap (λ (way : plans.Plan). trapped p t (planned t free regs (past_ecall t (view_here h)) way) h)
     (c.in-Delegated.ensures.is ∙ (λ i. plans.plan (c.call_number-number.ensures i) (c.arguments_of-args.ensures i)))
+
+pub begins-requires-clause-place : goal.begins-requires-clause-place
+begins-requires-clause-place g c = c.requires.place (ap is_delegated (sym (c.in-Delegated.ensures.is ∙ (λ i. plans.plan (c.call_number-number.ensures i) (c.arguments_of-args.ensures i)))))

@@ -8,7 +8,7 @@ use Rattle.kernel_model.specs.Traps.{Trapped, arguments_of, past_ecall, planned,
 use Rattle.lwk_node.specs.Shown.{node_of}
 use Rattle.lwk_side.proofs.Planned.{raises-signal, signal-there}
 use Rattle.lwk_side.proofs.kernel.Lwk.trap_of_stop.Goals as goal
-use Rattle.lwk_side.specs.Built.{is_built_call, is_built_stop}
+use Rattle.lwk_side.specs.Built.{begins_at, is_built_call, is_built_stop, names_delegated}
 use Rattle.lwk_side.specs.Shown.{here_of}
 use Rattle.mck_word.specs.declared.Regs.{Regs}
 use Rattle.std.proofs.Common.{ap, sym, ◌∙◌}
@@ -19,6 +19,10 @@ call-requires-clause-built g c =
     let regs = (thread_of (node_of c.args.self.now.node root_only) c.args.t.0).regs in
     ap (λ (x : Regs). is_built_call (reg x 17)) (c.regs-regs.ensures root_only)
     ∙ ap (λ (s : Stop). is_built_stop (reg regs 17) (Some s)) (sym c.in-Ecall.is) ∙ c.requires.built root_only
+
+pub call-requires-clause-place : goal.call-requires-clause-place
+call-requires-clause-place g c = λ e. c.requires.place root_only
+    (ap (λ (s : Stop). begins_at (thread_of (node_of c.args.self.now.node root_only) c.args.t.0).regs (Some s)) c.in-Ecall.is ∙ ap names_delegated (sym (c.regs-regs.ensures root_only)) ∙ e)
 
 pub raises_signal-requires-clause-signal : goal.raises_signal-requires-clause-signal
 raises_signal-requires-clause-signal g c =
