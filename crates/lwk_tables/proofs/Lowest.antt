@@ -1,20 +1,20 @@
 -- The lowest row of a map stands first among its entries.
 use Rattle.hybrid_model.specs.Sides.{Row}
-use Rattle.hybrid_model.specs.Spaces.{freed, freed_rows, insert_frame}
+use Rattle.hybrid_model.specs.Spaces.{freed, freed_rows}
 use Rattle.lwk_tables.proofs.OnePage.{insert-same}
 use Rattle.key_rows.specs.Table.{key_from}
 use Rattle.mck_word.specs.Lists.{insert_by}
 use Rattle.mck_word.specs.MapLaws.{at-cut, at-none, at-put, same_rows}
 use Rattle.mck_word.specs.Maps.{Map, at, cut, entries, no_rows, put}
 use Rattle.mck_word.specs.declared.Frame.{Frame}
-use Rattle.page_map.specs.NextLaws.{next-none, next-some}
+use Rattle.page_map.specs.NextLaws.{next-none}
 use Rattle.std.proofs.Common.{ap, arith, inl, inr, refl, sym, ◌∙◌}
 use Rattle.std.proofs.lemmas.Bool.{cases_eq, cases_order, eq-eqb, le-ltb, lt-ltb, ne_eqb}
 use Rattle.std.specs.Cmp.{nat_cmp_total}
 use Rattle.std.specs.FinMap as finmap
 use Rattle.std.specs.FinMap.Entries as fin
 use Rattle.std.specs.Ordering.{nat_cmp}
-use Rattle.std.specs.Prelude.{Bool, List, None, Option, Some, [], cond, is_some, length, nat_lt, option_map, ℕ, ◌+◌, ◌<◌, ◌==◌, ◌∷◌, ◌≡◌, ◌≤◌}
+use Rattle.std.specs.Prelude.{List, None, Option, Some, [], cond, is_some, length, nat_lt, option_map, ℕ, ◌+◌, ◌<◌, ◌∷◌, ◌≡◌}
 
 module _ {V : Type 0} where
   put-least : (k : ℕ) (v : V) (es : List (ℕ × V)) → ((e : ℕ × V) (rest : List (ℕ × V)) → es ≡ e ∷ rest → k < e.0) → fin.put nat_cmp k v es ≡ (k, v) ∷ es
