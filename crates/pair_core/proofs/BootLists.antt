@@ -1,6 +1,6 @@
 -- Lists at the boot: their first elements, and those that are left.
 use Rattle.std.proofs.Common.{All, ap, arith, refl, subst}
-use Rattle.std.specs.Prelude.{List, [], map, suc, ◌+◌, ◌++◌, ◌∷◌, ◌≡◌}
+use Rattle.std.specs.Prelude.{List, [], map, suc, ◌++◌, ◌∷◌, ◌≡◌}
 
 pub all-first : {X : Type 0} (P : X → Type 0) (xs ys : List X) (x : X) → xs ≡ x ∷ ys → All P xs → P x
 all-first P xs ys x e h = let all : All P (x ∷ ys) = subst (All P) e h in all 0 x (omega arith)
