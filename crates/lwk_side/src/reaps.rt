@@ -3,7 +3,7 @@ ghost use Rattle.hybrid_model.specs.Lwk.{may_reap, reap};
 ghost use Rattle.ikc_channel.specs.declared.Channel.{Channel as channels};
 ghost use Rattle.lwk_side.specs.Reaped.{reaped};
 ghost use Rattle.lwk_side.specs.Shown.{Rest, here_of};
-ghost use Rattle.lwk_side.specs.Sound.{IsSound};
+ghost use Rattle.lwk_side.specs.Sound.{IsSound, KeepsFrames};
 ghost use Rattle.std.specs.Prelude.{◌≡◌};
 
 use crate::kernel::Lwk;
@@ -28,8 +28,9 @@ impl Lwk {
     /// The process is Ended: its pages go, and their frames come free. Its mirror is to be emptied and its descriptors closed beside this.
     pub fn reap<T: PageTable>(&mut self, alloc: Global, task: &mut Task<T>, p: Pid)
         requires sound { IsSound self.old (T.rows task.old.space.table) }
-        ensures { (c : channels) (r : Rest) → here_of self.new (T.rows task.new.space.table) task.new c (reaped p.0 r)
+        ensures event { (c : channels) (r : Rest) → here_of self.new (T.rows task.new.space.table) task.new c (reaped p.0 r)
             ≡ reap p.0 (here_of self.old (T.rows task.old.space.table) task.old c r) }
+        ensures frames { KeepsFrames self.old self.new }
     {
         task.space.clear(alloc, &mut self.pool);
         self.node.process_ended(p);
