@@ -79,7 +79,7 @@ pub fn local_call<T: PageTable>(
 )
     requires frames { FramesIn (T.rows space.now.table) mem.old }
     requires apart { FramesApart (T.rows space.now.table) }
-    requires rest { MayRest node.old t.0 }
+    requires rest { number ≡ 98 → MayRest node.old t.0 }
     requires built { is_built_call number ≡ true }
     ensures { Did (T.rows space.now.table) node.old mem.old node.new mem.new (one_of_calls t.0 number (λ k. get_or args.now k 0)) }
 {

@@ -93,7 +93,7 @@ impl Lwk {
     /// A local call of the thread is made, behind its ecall.
     fn calls_locally<T: PageTable>(&mut self, task: &Task<T>, t: Tid, number: u64, args: &[u64; 6])
         requires sound { IsSound self.old (T.rows task.now.space.table) }
-        requires rest { MayRest self.old.node t.0 }
+        requires rest { number ≡ 98 → MayRest self.old.node t.0 }
         requires built { is_built_call number ≡ true }
         ensures after { (c : channels) (r : Rest) → here_of self.new (T.rows task.now.space.table) task.now c r
             ≡ (let h = here_of self.old (T.rows task.now.space.table) task.now c r in
@@ -145,7 +145,7 @@ impl Lwk {
         requires room { 1 ≤ channel.old.book.spare }
         requires callers { 1 ≤ task.old.callers.spare }
         requires more { channel.old.book.requests.next < 2 ^ 64 - 1 }
-        requires rest { MayRest self.old.node t.0 }
+        requires rest { reg regs.now 17 ≡ 98 → MayRest self.old.node t.0 }
         requires built { is_built_call (reg regs.now 17) ≡ true }
         ensures after { (r : Rest) (p free : ℕ) → here_of self.new (T.rows task.new.space.table) task.new channel.new r
             ≡ (let h = here_of self.old (T.rows task.old.space.table) task.old channel.old r in
@@ -178,7 +178,7 @@ impl Lwk {
         requires room { 1 ≤ channel.old.book.spare }
         requires callers { 1 ≤ task.old.callers.spare }
         requires more { channel.old.book.requests.next < 2 ^ 64 - 1 }
-        requires rest { MayRest self.old.node t.0 }
+        requires rest { (files : Files) → reg (thread_of (node_of self.old.node files) t.0).regs 17 ≡ 98 → MayRest self.old.node t.0 }
         requires built { (files : Files) → is_built_stop (reg (thread_of (node_of self.old.node files) t.0).regs 17) (Some stop) ≡ true }
         ensures after { (r : Rest) (p free : ℕ) → here_of self.new (T.rows task.new.space.table) task.new channel.new r
             ≡ (let h = here_of self.old (T.rows task.old.space.table) task.old channel.old r in
@@ -204,7 +204,7 @@ impl Lwk {
         requires room { 1 ≤ channel.old.book.spare }
         requires callers { 1 ≤ task.old.callers.spare }
         requires more { channel.old.book.requests.next < 2 ^ 64 - 1 }
-        requires rest { MayRest self.old.node t.0 }
+        requires rest { (files : Files) → reg (thread_of (node_of self.old.node files) t.0).regs 17 ≡ 98 → MayRest self.old.node t.0 }
         requires built { (files : Files) → is_built_trap (node_of self.old.node files) t.0 ≡ true }
         ensures event { (r : Rest) → here_of self.new (T.rows task.new.space.table) task.new channel.new r
             ≡ after_trap p.0 t.0 (here_of self.old (T.rows task.old.space.table) task.old channel.old r) }

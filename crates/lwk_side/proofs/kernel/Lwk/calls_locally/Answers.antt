@@ -6,7 +6,7 @@ use Rattle.lwk_side.proofs.kernel.Lwk.calls_locally.Goals as goal
 use Rattle.std.specs.Prelude.{get_or, ℕ}
 
 pub local_call-requires-clause-rest : goal.local_call-requires-clause-rest
-local_call-requires-clause-rest g c = may-rest c.args.self.now.node c.past_ecall.new.self c.args.t.0 c.past_ecall.ensures.room c.past_ecall.ensures.node c.requires.rest
+local_call-requires-clause-rest g c = λ e. may-rest c.args.self.now.node c.past_ecall.new.self c.args.t.0 c.past_ecall.ensures.room c.past_ecall.ensures.node (c.requires.rest e)
 
 pub returns-clause-after : goal.returns-clause-after
 returns-clause-after g c = λ channel r.

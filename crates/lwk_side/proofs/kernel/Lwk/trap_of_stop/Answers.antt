@@ -24,6 +24,9 @@ pub call-requires-clause-place : goal.call-requires-clause-place
 call-requires-clause-place g c = λ e. c.requires.place root_only
     (ap (λ (s : Stop). begins_at (thread_of (node_of c.args.self.now.node root_only) c.args.t.0).regs (Some s)) c.in-Ecall.is ∙ ap names_delegated (sym (c.regs-regs.ensures root_only)) ∙ e)
 
+pub call-requires-clause-rest : goal.call-requires-clause-rest
+call-requires-clause-rest g c = λ e. c.requires.rest root_only (ap (λ (x : Regs). reg x 17) (sym (c.regs-regs.ensures root_only)) ∙ e)
+
 pub raises_signal-requires-clause-signal : goal.raises_signal-requires-clause-signal
 raises_signal-requires-clause-signal g c =
     signal-there (reg (thread_of (node_of c.args.self.now.node root_only) c.args.t.0).regs 17) c.args.stop (c.requires.built root_only) (λ e. absurd (c.in_default.not-Ecall e))
