@@ -12,5 +12,6 @@ mod parts;
 mod pieces;
 mod pins;
 mod requests;
+mod rounds;
 
 pub use parts::{Parts, Side};
