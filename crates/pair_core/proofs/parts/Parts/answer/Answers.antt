@@ -1,7 +1,8 @@
-use Rattle.hybrid_model.specs.Events.{has_worker}
-use Rattle.hybrid_model.specs.Lwk.{post_answer}
+use Rattle.hybrid_model.specs.Lwk.{files_after_answer, post_answer}
 use Rattle.hybrid_model.specs.Pairs.{Here, ring_of, with_node, with_side}
 use Rattle.hybrid_model.specs.declared.events.Event.TheVariants.{Answer}
+use Rattle.hybrid_model.specs.Sides.{served}
+use Rattle.lwk_node.specs.Shown.{node_of}
 use Rattle.lwk_side.specs.Wired.{HasPlace}
 use Rattle.pair_core.proofs.Found.{after-is, has-row, may-here}
 use Rattle.pair_core.proofs.KernelFacts.{kept-after, wired}
@@ -9,7 +10,6 @@ use Rattle.pair_core.proofs.Posting.{MayAnswer, answer-posts, may-answer-is, nod
 use Rattle.pair_core.proofs.parts.Parts.answer.Goals as goal
 use Rattle.pair_core.specs.Shown.{here_in, pair_of, rest_of}
 use Rattle.std.proofs.Common.{ap, arith, refl, subst, sym, ◌∙◌}
-use Rattle.std.specs.Prelude.{◌<◌}
 
 pub row_mut-side-requires : goal.row_mut-side-requires
 row_mut-side-requires g c = has-row g.T.PageTable.rows g.F.FileStore.files c.args.self.now c.args.p.0 (Answer c.args.p c.args.w) refl c.requires.ready
@@ -37,13 +37,14 @@ give_answer-requires g c =
     }
 
 pub returns-clause-after : goal.returns-clause-after
+unfolding node_of
 returns-clause-after g c =
     let x = c.args.self.now in
     let s = c.row_mut-side.result.now in
     let h : Here = here_in g.T.PageTable.rows g.F.FileStore.files x s in
     let rest = rest_of g.T.PageTable.rows g.F.FileStore.files x s in
     let same = sym c.thread_served-t.ensures in
-    let files = c.give_back_without.ensures ∙ ? in
+    let files = c.give_back_without.ensures ∙ ap (λ o. files_after_answer o (served h.side.linux c.args.w).progress h.node.files) (c.answer_to-row.ensures h.side.linux) in
     after-is g.T.PageTable.rows g.F.FileStore.files x _ c.args.p.0 s _ (Answer c.args.p c.args.w) c.row_mut-side.ensures.value refl refl
         (c.give_answer.ensures.event (record rest { files = g.F.FileStore.files c.give_back_without.new.files }) same
         ∙ (λ i. with_node (with_side h (post_answer (ring_of h (sym same i)) c.args.w h.side)) ((ap (node_of x.lwk.node) files ∙ node-files x.lwk.node (g.F.FileStore.files x.files) _) i)))
