@@ -15,11 +15,11 @@ use Rattle.pair_core.proofs.FewCalls.{few-calls}
 use Rattle.pair_core.proofs.Found.{here-is, may-here, of-process}
 use Rattle.pair_core.specs.Kept.{Kept, Takes}
 use Rattle.pair_core.specs.Ready.{IsSound, Ready}
-use Rattle.pair_core.specs.Shown.{here_in, pair_of, shown_side}
+use Rattle.pair_core.specs.Shown.{here_in, pair_of}
 use Rattle.pair_core.specs.declared.parts.Parts.{Parts}
 use Rattle.pair_core.specs.declared.parts.Side.{Side}
 use Rattle.std.proofs.Common.{ap, arith, refl, subst, sym, ◌∙◌}
-use Rattle.std.specs.Prelude.{Bool, Option, Some, cond, false, length, true, ℕ, ◌+◌, ◌<◌, ◌==◌, ◌≡◌, ◌≤◌}
+use Rattle.std.specs.Prelude.{Bool, Some, cond, false, length, true, ℕ, ◌+◌, ◌<◌, ◌==◌, ◌≡◌, ◌≤◌}
 
 module _ {T F : Type 0} (rows : T → Map Row) (files : F → Files) (x : Parts T F) (p : ℕ) (s : Side T) where
   pub record Finds (e : Event) : Type 0 where
@@ -67,12 +67,12 @@ module _ {T F : Type 0} (rows : T → Map Row) (files : F → Files) (x : Parts 
 
 module _ {T F : Type 0} (x y : Parts T F) (p : ℕ) (s t : Side T) where
   -- what the parts keep stays where one process's rings take as many as before, and there are as many frames
-  pub kept-put : Kept x → at x.sides.map p ≡ Some s → y.sides.map ≡ put x.sides.map p t → y.workers ≡ x.workers → y.lwk.node ≡ x.lwk.node → y.lwk.pool ≡ x.lwk.pool → length y.lwk.frames ≡ length x.lwk.frames
+  pub kept-put : Kept x → at x.sides.map p ≡ Some s → y.sides.map ≡ put x.sides.map p t → y.workers ≡ x.workers → y.lwk.node.frame_count ≡ x.lwk.node.frame_count → y.lwk.pool.frames ≡ x.lwk.pool.frames → length y.lwk.frames ≡ length x.lwk.frames
       → t.channel.to_linux.capacity ≡ s.channel.to_linux.capacity → t.channel.to_lwk.capacity ≡ s.channel.to_lwk.capacity → Kept y
   kept-put k there puts workers node pool pages linux lwk = record {
     rings = λ j u e. subst (λ n. Takes (49 + n) u.channel) (sym workers) (go j u (j == p) refl (sym (at-put x.sides.map p t j) ∙ ap (λ m. at m j) (sym puts) ∙ e));
-    pages = pages ∙ k.pages ∙ ap (λ n. n.frame_count) (sym node);
-    pool = ap (λ q. q.frames) pool ∙ k.pool ∙ ap (λ n. n.frame_count) (sym node);
+    pages = pages ∙ k.pages ∙ sym node;
+    pool = pool ∙ k.pool ∙ sym node;
   }
     where
       own : Takes (49 + x.workers) t.channel

@@ -5,6 +5,7 @@ pub mod Copied
 pub mod Fetched
 pub mod FewCalls
 pub mod Linux
+pub mod MadeRoom
 pub mod MayLinux
 pub mod Taken
 pub mod Posting

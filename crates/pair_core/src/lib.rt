@@ -7,6 +7,7 @@
 mod kernel_events;
 mod linux_may;
 mod messages;
+mod linux_room;
 mod parks;
 mod parts;
 mod pieces;
