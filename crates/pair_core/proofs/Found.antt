@@ -57,6 +57,13 @@ module _ {T F : Type 0} (rows : T → Map Row) (files : F → Files) where
   has-row x p e process r = found x p r.sound.coherent
       (both-first (is_there (pair_of rows files x).node p) (may_here e (here (pair_of rows files x) p)) (ap (λ q. is_there (pair_of rows files x).node q && may_here e (here (pair_of rows files x) q)) (sym process) ∙ r.may))
 
+  some-side : (o : Option (Side T)) → IsSome o → (s : Side T) × (o ≡ Some s)
+  some-side None e = absurd (grind (arith, e))
+  some-side (Some s) e = (s, refl)
+
+  pub row-there : (x : Parts T F) (p : ℕ) (e : Event) → process_of_event (pair_of rows files x).node e ≡ p → Ready (pair_of rows files x) e → (s : Side T) × (at x.sides.map p ≡ Some s)
+  row-there x p e process r = some-side (at x.sides.map p) (has-row x p e process r)
+
   pub may-here : (x : Parts T F) (p : ℕ) (s : Side T) (e : Event) → at x.sides.map p ≡ Some s → process_of_event (pair_of rows files x).node e ≡ p → Ready (pair_of rows files x) e → may_here e (here_in rows files x s) ≡ true
   may-here x p s e there process r = ap (may_here e) (sym (here-is x p s there))
       ∙ both-last (is_there (pair_of rows files x).node p) (may_here e (here (pair_of rows files x) p)) (ap (λ q. is_there (pair_of rows files x).node q && may_here e (here (pair_of rows files x) q)) (sym process) ∙ r.may)

@@ -1,7 +1,7 @@
 -- What an event of the lightweight kernel finds: sound frames, a channel with the job's rings, and a place in the ring of its thread.
 use Rattle.file_model.specs.Files.{Files}
 use Rattle.guest_laws.specs.RingRoom.{FindsRoom}
-use Rattle.hybrid_model.specs.Events.{after, after_here, process_of_event}
+use Rattle.hybrid_model.specs.Events.{after, after_here, of_line, process_of_event}
 use Rattle.hybrid_model.specs.Globals.{Coherent, Frames, copies, table_of}
 use Rattle.hybrid_laws.specs.Tests.{both}
 use Rattle.hybrid_model.specs.Lwk.{left_of_limit, may_run_for}
@@ -12,7 +12,7 @@ use Rattle.hybrid_model.specs.Tallies.{if_same, tally}
 use Rattle.hybrid_model.specs.declared.events.Event.{Event}
 use Rattle.ikc_ring.specs.declared.Msg.{Msg}
 use Rattle.kernel_model.specs.Nodes.{has_thread, thread_of}
-use Rattle.kernel_model.specs.Traps.{may_run}
+use Rattle.kernel_model.specs.Traps.{line_of, may_run}
 use Rattle.lwk_node.specs.declared.tables.Node.{Node}
 use Rattle.lwk_side.specs.Sound.{IsSound as IsSoundTable}
 use Rattle.lwk_side.specs.Wired.{Wired}
@@ -76,6 +76,10 @@ module _ {T F : Type 0} (rows : T → Map Row) (files : F → Files) (x : Parts 
   pub process-is : (t q : ℕ) → ((other : Files) → q ≡ (thread_of (node_of x.lwk.node other) t).process) → (thread_of (pair_of rows files x).node t).process ≡ q
   unfolding pair_of
   process-is t q e = sym (e (files x.files))
+
+  pub line-is : (k q : ℕ) → ((other : Files) → q ≡ of_line (line_of (node_of x.lwk.node other) k)) → of_line (line_of (pair_of rows files x).node k) ≡ q
+  unfolding pair_of
+  line-is k q e = sym (e (files x.files))
 
 module _ {T F : Type 0} (rows : T → Map Row) (files : F → Files) (x : Parts T F) (p : ℕ) (s : Side T) (there : at x.sides.map p ≡ Some s) where
   -- the side that the state has of the process

@@ -1,9 +1,9 @@
 -- An event that posts a message of a thread finds a place in the thread's ring: the event makes that ring longer.
 use Rattle.file_model.specs.Files.{Files}
 use Rattle.guest_laws.specs.RingRoom.{FindsRoom}
-use Rattle.hybrid_laws.specs.Tests.{both}
+use Rattle.hybrid_laws.specs.Tests.{both, none-is}
 use Rattle.hybrid_model.specs.Events.{after_here, has_worker, process_of_event}
-use Rattle.hybrid_model.specs.Lwk.{answer_to, begin_round, begin_vm, begin_vm_of, caller_at, files_after_answer, give_answer, interrupt, interrupt_as, is_calling, may_answer, noted_may_be_answered, noted_of, post_answer, post_interrupt, thread_served}
+use Rattle.hybrid_model.specs.Lwk.{answer_to, begin_round, begin_vm, begin_vm_of, caller_at, files_after_answer, give_answer, interrupt, interrupt_as, is_calling, may_answer, may_begin_vm, noted_may_be_answered, noted_of, post_answer, post_interrupt, thread_served}
 use Rattle.hybrid_model.specs.Pairs.{Here, ring_of, with_node, with_side}
 use Rattle.hybrid_model.specs.Rings.{ring}
 use Rattle.hybrid_model.specs.Sides.{Caller as CallerOf, Noted, Round, Row, Side as SideOf, served}
@@ -11,10 +11,10 @@ use Rattle.hybrid_model.specs.declared.events.Event.{Event}
 use Rattle.ikc_channel.specs.Lines.{Lines}
 use Rattle.ikc_ring.specs.declared.Msg.TheVariants.{Answer, Clear, Interrupt}
 use Rattle.kernel_model.specs.MemoryCalls.{closing_range}
-use Rattle.kernel_model.specs.Nodes.{change_in, process_of, set_files, thread_of}
+use Rattle.kernel_model.specs.Nodes.{change_in, has_thread, is_living, process_of, set_files, thread_of}
 use Rattle.kernel_model.specs.declared.Change.{Change}
 use Rattle.kernel_model.specs.declared.Does.{Does}
-use Rattle.kernel_model.specs.declared.Does.TheVariants.{InVm}
+use Rattle.kernel_model.specs.declared.Does.TheVariants.{Asleep, Called, InVm, InWait, Ready, Stopped}
 use Rattle.lwk_node.specs.Shown.{node_of}
 use Rattle.lwk_node.specs.declared.tables.Node.{Node}
 use Rattle.lwk_side.specs.Shown.{shown_caller}
@@ -23,6 +23,7 @@ use Rattle.lwk_side.specs.declared.kernel.Lwk.{Lwk}
 use Rattle.lwk_side.specs.declared.task.Caller.{Caller}
 use Rattle.mck_word.specs.EachLaws.{at-each}
 use Rattle.mck_word.specs.Maps.{Map, at, each}
+use Rattle.mck_word.specs.declared.PageRange.{PageRange}
 use Rattle.pair_core.proofs.KernelFacts.{place-in, post-longer}
 use Rattle.pair_core.specs.Kept.{Kept}
 use Rattle.pair_core.specs.Shown.{here_in, pair_of}
@@ -30,7 +31,7 @@ use Rattle.pair_core.specs.declared.parts.Parts.{Parts}
 use Rattle.pair_core.specs.declared.parts.Side.{Side}
 use Rattle.std.proofs.Common.{ap, arith, mod-lt, refl, subst, sym, ◌∙◌}
 use Rattle.std.proofs.lemmas.Bool.Decides.{nat_tests}
-use Rattle.std.specs.Prelude.{Bool, IsSome, None, Option, Some, false, is_some, length, nat_lt, option_map, true, ℕ, ◌%◌, ◌&&◌, ◌+◌, ◌<◌, ◌≡◌, ◌≤◌}
+use Rattle.std.specs.Prelude.{Bool, IsSome, None, Option, Some, false, is_none, is_some, length, nat_lt, option_map, true, ℕ, ◌%◌, ◌&&◌, ◌+◌, ◌<◌, ◌≡◌, ◌≤◌}
 
 -- the ring of a thread is one of the channel's
 pub own-ring : (lwk : Lwk) (lines : Lines) (t : ℕ) → Wired lwk lines → t % lwk.cores % lwk.rings < length lines.messages
@@ -84,6 +85,29 @@ pub begin-posts : (p t : ℕ) (c : Change) (h : Here) → change_in (thread_of h
 unfolding begin_round
 begin-posts p t c h e none r = subst (λ o. Posts t h (begin_vm_of p t o h)) (sym e)
     (record { longer = (let a = post-longer (ring_of h t) (Clear (closing_range (process_of h.node p) c)) h.side.to_linux r in omega (arith, a)); unborn = none })
+
+pub record MayBegin (t : ℕ) (h : Here) : Type 0 where
+  pub changes : is_some (change_in (thread_of h.node t).does) ≡ true
+  pub none : h.side.round ≡ None
+
+pub may-begin-is : (t : ℕ) (h : Here) → may_begin_vm t h ≡ true → MayBegin t h
+may-begin-is t h e =
+    let a = both _ (is_none h.side.round) e in
+    let b = both _ (is_living h.node (thread_of h.node t).process) a.0 in
+    let c = both (has_thread h.node t) (is_some (change_in (thread_of h.node t).does)) b.0 in
+    record { changes = c.1; none = none-is h.side.round a.1 }
+
+-- a thread that changes its memory has a change
+pub no-change : (d : Does) → is_some (change_in d) ≡ true → ((c : Change) → d ≡ InVm c → ⊥) → ⊥
+no-change (InVm c) e none = none c refl
+no-change Ready e none = grind (arith, e)
+no-change (Stopped s) e none = grind (arith, e)
+no-change Called e none = grind (arith, e)
+no-change (Asleep a) e none = grind (arith, e)
+no-change (InWait a b) e none = grind (arith, e)
+
+pub begin-is : (p t : ℕ) (c : Change) (r : PageRange) (h : Here) → change_in (thread_of h.node t).does ≡ Some c → r ≡ closing_range (process_of h.node p) c → with_side h (begin_round (ring_of h t) t r h.side) ≡ begin_vm p t h
+begin-is p t c r h e is = ap (λ range. with_side h (begin_round (ring_of h t) t range h.side)) is ∙ ap (λ o. begin_vm_of p t o h) (sym e)
 
 module _ {T F : Type 0} (rows : T → Map Row) (files : F → Files) (x : Parts T F) (p : ℕ) (s : Side T) (there : at x.sides.map p ≡ Some s) where
   -- a place for the message

@@ -18,6 +18,7 @@ mod parts;
 mod pieces;
 mod pins;
 mod requests;
+mod rounds;
 
 pub use boot_error::BootError;
 pub use parts::{Parts, Side};
