@@ -13,3 +13,4 @@ pub mod MadeRoom
 pub mod MayLinux
 pub mod Taken
 pub mod Posting
+pub mod Begun

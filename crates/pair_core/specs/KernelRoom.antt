@@ -1,9 +1,30 @@
 -- What of the lightweight kernel's events is built, and the memory that they need.
+use Rattle.file_model.specs.Files.{Files}
+use Rattle.isa_model.specs.Registers.{reg}
+use Rattle.kernel_model.specs.Nodes.{Node, thread_of}
+use Rattle.lwk_node.specs.Shown.{node_of}
+use Rattle.lwk_side.specs.Built.{is_built_trap}
+use Rattle.mck_word.specs.Maps.{at}
+use Rattle.pair_core.specs.declared.parts.Parts.{Parts}
+use Rattle.pair_core.specs.declared.parts.Side.{Side}
 use Rattle.ikc_ring.specs.declared.Msg.{Msg}
 use Rattle.ikc_ring.specs.declared.Msg.TheVariants.{Ack}
-use Rattle.std.specs.Prelude.{Option, Some}
+use Rattle.std.specs.Prelude.{Bool, Option, Some, not, ℕ, ◌&&◌, ◌==◌, ◌≡◌, ◌≤◌}
 
 -- an acknowledgement can't be taken yet
 abbrev pub IsBuilt : Option Msg → Type 0
 IsBuilt (Some Ack) = ⊥
 IsBuilt _ = Unit {0}
+
+-- a call can begin without memory
+pub record HasCallRoom {T : Type 0} (s : Side T) : Type 0 where
+  pub book : 1 ≤ s.channel.book.spare
+  pub callers : 1 ≤ s.task.callers.spare
+
+-- the trap of the thread takes no memory
+abbrev pub HasTrapRoom : {T F : Type 0} → Parts T F → ℕ → Type 0
+HasTrapRoom {T} x t = (p : ℕ) (s : Side T) → at x.sides.map p ≡ Some s → ((files : Files) → p ≡ (thread_of (node_of x.lwk.node files) t).process) → HasCallRoom s
+
+-- the trap of the thread is built, but for the calls by which it may fall asleep
+abbrev pub is_built_here : Node → ℕ → Bool
+is_built_here node t = is_built_trap node t && not (reg (thread_of node t).regs 17 == 98)

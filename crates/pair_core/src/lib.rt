@@ -19,6 +19,7 @@ mod pieces;
 mod pins;
 mod requests;
 mod rounds;
+mod traps;
 
 pub use boot_error::BootError;
 pub use parts::{Parts, Side};

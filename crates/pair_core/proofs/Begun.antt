@@ -1,0 +1,54 @@
+-- A trap that begins a call makes the ring of its thread longer.
+use Rattle.hybrid_model.specs.Lwk.{after_trap, begin_call, ran_last, trapped, view_here}
+use Rattle.hybrid_model.specs.Pairs.{Here, ring_of}
+use Rattle.hybrid_model.specs.Rings.{ring}
+use Rattle.isa_model.specs.Registers.{reg}
+use Rattle.isa_model.specs.declared.stops.Stop.{Stop}
+use Rattle.isa_model.specs.declared.stops.Stop.TheVariants.{Break, Ecall, Illegal, Misaligned, On, Fault}
+use Rattle.kernel_model.specs.Nodes.{stop_in, thread_of}
+use Rattle.kernel_model.specs.Plans.{Delegated, Local, Phase, Plan, Unknown, Vm, plan}
+use Rattle.kernel_model.specs.Progress.{starting}
+use Rattle.kernel_model.specs.Signals.{View}
+use Rattle.kernel_model.specs.Traps.{Begins, Trapped, arguments_of, past_ecall, planned, trap, trap_of_stop}
+use Rattle.lwk_side.specs.Built.{begins_at, begins_call, is_delegated}
+use Rattle.mck_word.specs.declared.Regs.{Regs}
+use Rattle.pair_core.proofs.KernelFacts.{post-longer}
+use Rattle.std.proofs.Common.{ap, arith, refl, sym, ◌∙◌}
+use Rattle.std.specs.Prelude.{List, None, Option, Some, length, true, ℕ, ◌+◌, ◌<◌, ◌≡◌}
+
+module _ (t free : ℕ) (v : View) where
+  abbrev regs : Regs
+  regs = (thread_of v.node t).regs
+
+  abbrev begun : List Phase → Trapped
+  begun phases = Begins (past_ecall t v).node (starting (reg regs 17) (arguments_of regs) phases)
+
+  by-plan : (w : Plan) → is_delegated w ≡ true → (phases : List Phase) × (planned t free regs (past_ecall t v) w ≡ begun phases)
+  by-plan Unknown e = absurd (grind (arith, e))
+  by-plan Local e = absurd (grind (arith, e))
+  by-plan Vm e = absurd (grind (arith, e))
+  by-plan (Delegated phases) e = (phases, refl)
+
+  by-stop : (o : Option Stop) → begins_at regs o ≡ true → (phases : List Phase) × (trap_of_stop t free v o ≡ begun phases)
+  by-stop None e = absurd (grind (arith, e))
+  by-stop (Some On) e = absurd (grind (arith, e))
+  by-stop (Some Break) e = absurd (grind (arith, e))
+  by-stop (Some Illegal) e = absurd (grind (arith, e))
+  by-stop (Some Misaligned) e = absurd (grind (arith, e))
+  by-stop (Some (Fault l)) e = absurd (grind (arith, e))
+  by-stop (Some Ecall) e = by-plan (plan (reg regs 17) (arguments_of regs)) e
+
+  pub trap-begins : begins_call v.node t ≡ true → (phases : List Phase) × (trap t free v ≡ begun phases)
+  unfolding trap
+  trap-begins e = by-stop (stop_in (thread_of v.node t).does) e
+
+-- no process begins, and the ring has one message more
+pub begun-longer : (p t : ℕ) (h : Here) → begins_call h.node t ≡ true → ring_of h t < length h.side.to_linux
+    → ((after_trap p t h).born ≡ h.born) × (length (ring (ring_of h t) h.side.to_linux) < length (ring (ring_of h t) (after_trap p t h).side.to_linux))
+unfolding after_trap begin_call
+begun-longer p t h e below =
+    let b = trap-begins t (length h.free) (view_here h) e in
+    let is = b.1 in
+    let born = ap (λ (w : Trapped). (trapped p t w h).born) is in
+    let longer = ap (λ (w : Trapped). length (ring (ring_of h t) (trapped p t w h).side.to_linux)) is ∙ post-longer (ring_of h t) _ h.side.to_linux below in
+    (born, omega (arith, longer))
