@@ -9,3 +9,4 @@ pub mod MadeRoom
 pub mod MayLinux
 pub mod Taken
 pub mod Posting
+pub mod MayKernel

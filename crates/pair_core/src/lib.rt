@@ -5,9 +5,10 @@
 #![tactic(auto)]
 
 mod kernel_events;
+mod kernel_may;
 mod linux_may;
-mod messages;
 mod linux_room;
+mod messages;
 mod parks;
 mod parts;
 mod pieces;
