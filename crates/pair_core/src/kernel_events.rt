@@ -25,7 +25,8 @@ impl<T: PageTable + Drop, F: FileStore> Parts<T, F> {
         let _left = self.lwk.node.left_of_limit();
         let p = self.lwk.node.process_of_thread(t);
         let side = self.sides.row_mut(p.0 as u64);
-        self.lwk.run(&side.task, &side.channel, t, most, &mut self.known);
+        self.lwk
+            .run(&side.task, &side.channel, t, most, &mut self.known);
     }
 
     /// The line of the script of that index sends its signal.

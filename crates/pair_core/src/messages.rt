@@ -91,8 +91,7 @@ impl<T: PageTable + Drop, F: FileStore> Parts<T, F> {
         no_ring_is_full();
         let p = self.lwk.node.process_of_thread(t);
         let side = self.sides.row_mut(p.0 as u64);
-        self.lwk
-            .interrupt(&mut side.task, &mut side.channel, t);
+        self.lwk.interrupt(&mut side.task, &mut side.channel, t);
     }
 
     /// The noted fault of a worker is answered. An empty answer ends the call, which gives its description back.

@@ -1,8 +1,6 @@
 use Rattle.hybrid_model.specs.Lwk.{take_reply}
-use Rattle.hybrid_model.specs.Rings.{head_of, rest_of as rest}
+use Rattle.hybrid_model.specs.Rings.{rest_of as rest}
 use Rattle.hybrid_model.specs.declared.events.Event.TheVariants.{Intake}
-use Rattle.ikc_ring.specs.declared.Msg.TheVariants.{Fault, Reply}
-use Rattle.mck_word.specs.Maps.{each}
 use Rattle.pair_core.proofs.Found.{after-is, has-row, of-process}
 use Rattle.pair_core.proofs.KernelFacts.{kept-after}
 use Rattle.pair_core.proofs.Taken.{callers-fit, fault-of-worker, leaves-empty, leaves-other, takes-fault, takes-reply}
@@ -32,7 +30,7 @@ take_fault-requires g c =
     let sound = c.requires.ready.sound in
     let k = of-process g.T.PageTable.rows g.F.FileStore.files x c.args.p.0 s c.row_mut-side.ensures.value sound.coherent in
     fault-of-worker c.args.p.0 pair (shown_side g.T.PageTable.rows s) k c.in-Fault.worker c.in-Fault.page c.in-Fault.access sound.small.workers
-        (sym c.head.ensures ∙ sym c.copied.ensures ∙ c.in-Some.is ∙ ap Some c.in-Fault.is)
+    (sym c.head.ensures ∙ sym c.copied.ensures ∙ c.in-Some.is ∙ ap Some c.in-Fault.is)
 
 pub returns-in-Reply-clause-after : goal.returns-in-Reply-clause-after
 returns-in-Reply-clause-after g c =
@@ -41,14 +39,14 @@ returns-in-Reply-clause-after g c =
     let h = here_in g.T.PageTable.rows g.F.FileStore.files x s in
     let same : to_z w64 (of_z w64 c.in-Reply.code) ≡ c.in-Reply.code = search rules in
     after-is g.T.PageTable.rows g.F.FileStore.files x _ c.args.p.0 s _ (Intake c.args.p) c.row_mut-side.ensures.value refl refl
-        (c.take_reply.ensures.event (rest_of g.T.PageTable.rows g.F.FileStore.files x s)
-        ∙ ap (λ z. take_reply c.in-Reply.q.0 z (rest s.channel.to_lwk.items) h) same
-        ∙ takes-reply c.args.p.0 s.channel.to_lwk.items c.in-Reply.q c.in-Reply.code h (sym c.head.ensures ∙ sym c.copied.ensures ∙ c.in-Some.is ∙ ap Some c.in-Reply.is))
+    (c.take_reply.ensures.event (rest_of g.T.PageTable.rows g.F.FileStore.files x s)
+    ∙ ap (λ z. take_reply c.in-Reply.q.0 z (rest s.channel.to_lwk.items) h) same
+    ∙ takes-reply c.args.p.0 s.channel.to_lwk.items c.in-Reply.q c.in-Reply.code h (sym c.head.ensures ∙ sym c.copied.ensures ∙ c.in-Some.is ∙ ap Some c.in-Reply.is))
 
 pub returns-in-Reply-clause-kept : goal.returns-in-Reply-clause-kept
 returns-in-Reply-clause-kept g c =
     kept-after g.T.PageTable.rows g.F.FileStore.files c.args.self.now _ c.args.p.0 c.row_mut-side.result.now _ (Intake c.args.p) c.requires.kept c.row_mut-side.ensures.value refl refl (returns-in-Reply-clause-after g c)
-        c.take_reply.ensures.frames.pages c.take_reply.ensures.frames.pool c.take_reply.ensures.rings.to_linux c.take_reply.ensures.rings.to_lwk
+    c.take_reply.ensures.frames.pages c.take_reply.ensures.frames.pool c.take_reply.ensures.rings.to_linux c.take_reply.ensures.rings.to_lwk
 
 pub returns-in-Fault-clause-after : goal.returns-in-Fault-clause-after
 returns-in-Fault-clause-after g c =
@@ -56,13 +54,13 @@ returns-in-Fault-clause-after g c =
     let s = c.row_mut-side.result.now in
     let h = here_in g.T.PageTable.rows g.F.FileStore.files x s in
     after-is g.T.PageTable.rows g.F.FileStore.files x _ c.args.p.0 s _ (Intake c.args.p) c.row_mut-side.ensures.value refl refl
-        (c.take_fault.ensures.event (rest_of g.T.PageTable.rows g.F.FileStore.files x s)
-        ∙ takes-fault c.args.p.0 s.channel.to_lwk.items c.in-Fault.worker c.in-Fault.page c.in-Fault.access h (sym c.head.ensures ∙ sym c.copied.ensures ∙ c.in-Some.is ∙ ap Some c.in-Fault.is))
+    (c.take_fault.ensures.event (rest_of g.T.PageTable.rows g.F.FileStore.files x s)
+    ∙ takes-fault c.args.p.0 s.channel.to_lwk.items c.in-Fault.worker c.in-Fault.page c.in-Fault.access h (sym c.head.ensures ∙ sym c.copied.ensures ∙ c.in-Some.is ∙ ap Some c.in-Fault.is))
 
 pub returns-in-Fault-clause-kept : goal.returns-in-Fault-clause-kept
 returns-in-Fault-clause-kept g c =
     kept-after g.T.PageTable.rows g.F.FileStore.files c.args.self.now _ c.args.p.0 c.row_mut-side.result.now _ (Intake c.args.p) c.requires.kept c.row_mut-side.ensures.value refl refl (returns-in-Fault-clause-after g c)
-        refl refl c.take_fault.ensures.rings.to_linux c.take_fault.ensures.rings.to_lwk
+    refl refl c.take_fault.ensures.rings.to_linux c.take_fault.ensures.rings.to_lwk
 
 pub returns-in_default-clause-after : goal.returns-in_default-clause-after
 returns-in_default-clause-after g c =
@@ -70,13 +68,13 @@ returns-in_default-clause-after g c =
     let s = c.row_mut-side.result.now in
     let h = here_in g.T.PageTable.rows g.F.FileStore.files x s in
     after-is g.T.PageTable.rows g.F.FileStore.files x _ c.args.p.0 s s (Intake c.args.p) c.row_mut-side.ensures.value refl refl
-        (leaves-empty c.args.p.0 s.channel.to_lwk.items h (sym c.head.ensures ∙ sym c.copied.ensures ∙ c.in_default.is))
+    (leaves-empty c.args.p.0 s.channel.to_lwk.items h (sym c.head.ensures ∙ sym c.copied.ensures ∙ c.in_default.is))
 
 pub returns-in_default-clause-kept : goal.returns-in_default-clause-kept
 returns-in_default-clause-kept g c =
     let s = c.row_mut-side.result.now in
     kept-after g.T.PageTable.rows g.F.FileStore.files c.args.self.now _ c.args.p.0 s s (Intake c.args.p) c.requires.kept c.row_mut-side.ensures.value refl refl (returns-in_default-clause-after g c)
-        refl refl refl refl
+    refl refl refl refl
 
 pub returns-in_default-m : goal.returns-in_default-m
 returns-in_default-m g c =
@@ -84,5 +82,5 @@ returns-in_default-m g c =
     let s = c.row_mut-side.result.now in
     let h = here_in g.T.PageTable.rows g.F.FileStore.files x s in
     let is = after-is g.T.PageTable.rows g.F.FileStore.files x _ c.args.p.0 s s (Intake c.args.p) c.row_mut-side.ensures.value refl refl
-        (leaves-other c.args.p.0 s.channel.to_lwk.items c.in-Some.m h (sym c.head.ensures ∙ sym c.copied.ensures ∙ c.in-Some.is) (c.requires.built s c.row_mut-side.ensures.value) c.in_default-m.not-Reply c.in_default-m.not-Fault) in
+    (leaves-other c.args.p.0 s.channel.to_lwk.items c.in-Some.m h (sym c.head.ensures ∙ sym c.copied.ensures ∙ c.in-Some.is) (c.requires.built s c.row_mut-side.ensures.value) c.in_default-m.not-Reply c.in_default-m.not-Fault) in
     record { after = is; kept = kept-after g.T.PageTable.rows g.F.FileStore.files x _ c.args.p.0 s s (Intake c.args.p) c.requires.kept c.row_mut-side.ensures.value refl refl is refl refl refl refl }

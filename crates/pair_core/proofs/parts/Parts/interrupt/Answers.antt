@@ -10,7 +10,7 @@ pub row_mut-side-requires : goal.row_mut-side-requires
 row_mut-side-requires g c =
     let x = c.args.self.now in
     has-row g.T.PageTable.rows g.F.FileStore.files x c.process_of_thread-p.result.0 (Interrupt c.args.t)
-        (process-is g.T.PageTable.rows g.F.FileStore.files x c.args.t.0 c.process_of_thread-p.result.0 c.process_of_thread-p.ensures) c.requires.ready
+    (process-is g.T.PageTable.rows g.F.FileStore.files x c.args.t.0 c.process_of_thread-p.result.0 c.process_of_thread-p.ensures) c.requires.ready
 
 pub interrupt-requires : goal.interrupt-requires
 interrupt-requires g c =
@@ -36,10 +36,10 @@ returns-clause-after g c =
     let s = c.row_mut-side.result.now in
     let process = process-is g.T.PageTable.rows g.F.FileStore.files x c.args.t.0 p c.process_of_thread-p.ensures in
     after-is g.T.PageTable.rows g.F.FileStore.files x _ p s _ (Interrupt c.args.t) c.row_mut-side.ensures.value refl process
-        (c.interrupt.ensures.event (rest_of g.T.PageTable.rows g.F.FileStore.files x s))
+    (c.interrupt.ensures.event (rest_of g.T.PageTable.rows g.F.FileStore.files x s))
 
 pub returns-clause-kept : goal.returns-clause-kept
 returns-clause-kept g c =
     let s = c.row_mut-side.result.now in
     kept-after g.T.PageTable.rows g.F.FileStore.files c.args.self.now _ c.process_of_thread-p.result.0 s _ (Interrupt c.args.t) c.requires.kept c.row_mut-side.ensures.value refl refl (returns-clause-after g c)
-        c.interrupt.ensures.frames.pages c.interrupt.ensures.frames.pool c.interrupt.ensures.rings.to_linux c.interrupt.ensures.rings.to_lwk
+    c.interrupt.ensures.frames.pages c.interrupt.ensures.frames.pool c.interrupt.ensures.rings.to_linux c.interrupt.ensures.rings.to_lwk
