@@ -2,13 +2,12 @@
 use Rattle.file_model.specs.Files.{Files}
 use Rattle.guest_laws.specs.RingRoom.{FindsRoom}
 use Rattle.hybrid_model.specs.Events.{after, after_here, of_line, process_of_event}
-use Rattle.hybrid_model.specs.Globals.{Coherent, Frames, copies, table_of}
+use Rattle.hybrid_model.specs.Globals.{Coherent, copies, table_of}
 use Rattle.hybrid_laws.specs.Tests.{both}
 use Rattle.hybrid_model.specs.Lwk.{left_of_limit, may_run_for}
 use Rattle.hybrid_model.specs.Pairs.{Here, Pair, here, put_here, side_of, with_born}
 use Rattle.hybrid_model.specs.Rings.{post, ring}
 use Rattle.hybrid_model.specs.Sides.{Row, Side as SideOf, new_side}
-use Rattle.hybrid_model.specs.Tallies.{if_same, tally}
 use Rattle.hybrid_model.specs.declared.events.Event.{Event}
 use Rattle.ikc_ring.specs.declared.Msg.{Msg}
 use Rattle.kernel_model.specs.Nodes.{has_thread, thread_of}
@@ -20,7 +19,6 @@ use Rattle.mck_word.specs.EachLaws.{at-each}
 use Rattle.mck_word.specs.Lists.{member}
 use Rattle.mck_word.specs.MapLaws.{at-put}
 use Rattle.mck_word.specs.Maps.{Map, at, put}
-use Rattle.mck_word.specs.declared.Frame.{Frame}
 use Rattle.pair_core.proofs.Found.{here-is}
 use Rattle.offer_laws.specs.Sizes.{frame-count-stays}
 use Rattle.lwk_node.specs.Shown.{node_of}
@@ -32,7 +30,7 @@ use Rattle.pair_core.specs.declared.parts.Side.{Side}
 use Rattle.std.proofs.Common.{ap, arith, refl, subst, sym, ◌∙◌}
 use Rattle.std.proofs.lemmas.Bool.Decides.{nat_tests}
 use Rattle.std.proofs.lemmas.List.{length-append}
-use Rattle.std.specs.Prelude.{zero, suc, Bool, List, None, Option, Some, [], cond, false, length, if◌then◌else◌, nat_le, ◌≤◌, option_map, true, unwrap_or, ℕ, ◌||◌, ◌++◌, ◌+◌, ◌<◌, ◌==◌, ◌∷◌, ◌≡◌}
+use Rattle.std.specs.Prelude.{zero, suc, Bool, List, None, Some, [], cond, false, length, if◌then◌else◌, nat_le, ◌≤◌, option_map, true, unwrap_or, ℕ, ◌||◌, ◌+◌, ◌<◌, ◌==◌, ◌∷◌, ◌≡◌}
 
 -- a frame without a copy among the free ones is none of them
 no-member : (f : ℕ) (free : List ℕ) → copies f free ≡ 0 → member f free ≡ false

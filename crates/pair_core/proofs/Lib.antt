@@ -14,3 +14,4 @@ pub mod MayLinux
 pub mod Taken
 pub mod Posting
 pub mod Begun
+pub mod MayKernel

@@ -3,10 +3,10 @@ use Rattle.file_model.specs.Files.{Files}
 use Rattle.guest_laws.specs.RingRoom.{FindsRoom}
 use Rattle.hybrid_laws.specs.Tests.{both, none-is}
 use Rattle.hybrid_model.specs.Events.{after_here, has_worker, process_of_event}
-use Rattle.hybrid_model.specs.Lwk.{answer_to, begin_round, begin_vm, begin_vm_of, caller_at, files_after_answer, give_answer, interrupt, interrupt_as, is_calling, may_answer, may_begin_vm, noted_may_be_answered, noted_of, post_answer, post_interrupt, thread_served}
-use Rattle.hybrid_model.specs.Pairs.{Here, ring_of, with_node, with_side}
+use Rattle.hybrid_model.specs.Lwk.{answer_to, begin_round, begin_vm, begin_vm_of, caller_at, give_answer, interrupt, interrupt_as, is_calling, may_answer, may_begin_vm, noted_may_be_answered, noted_of, post_answer, post_interrupt, thread_served}
+use Rattle.hybrid_model.specs.Pairs.{Here, ring_of, with_side}
 use Rattle.hybrid_model.specs.Rings.{ring}
-use Rattle.hybrid_model.specs.Sides.{Caller as CallerOf, Noted, Round, Row, Side as SideOf, served}
+use Rattle.hybrid_model.specs.Sides.{Noted, Round, Row}
 use Rattle.hybrid_model.specs.declared.events.Event.{Event}
 use Rattle.ikc_channel.specs.Lines.{Lines}
 use Rattle.ikc_ring.specs.declared.Msg.TheVariants.{Answer, Clear, Interrupt}
@@ -31,7 +31,7 @@ use Rattle.pair_core.specs.declared.parts.Parts.{Parts}
 use Rattle.pair_core.specs.declared.parts.Side.{Side}
 use Rattle.std.proofs.Common.{ap, arith, mod-lt, refl, subst, sym, ◌∙◌}
 use Rattle.std.proofs.lemmas.Bool.Decides.{nat_tests}
-use Rattle.std.specs.Prelude.{Bool, IsSome, None, Option, Some, false, is_none, is_some, length, nat_lt, option_map, true, ℕ, ◌%◌, ◌&&◌, ◌+◌, ◌<◌, ◌≡◌, ◌≤◌}
+use Rattle.std.specs.Prelude.{Bool, IsSome, None, Option, Some, false, is_none, is_some, length, option_map, true, ℕ, ◌%◌, ◌&&◌, ◌<◌, ◌≡◌}
 
 -- the ring of a thread is one of the channel's
 pub own-ring : (lwk : Lwk) (lines : Lines) (t : ℕ) → Wired lwk lines → t % lwk.cores % lwk.rings < length lines.messages

@@ -8,7 +8,6 @@ use Rattle.hybrid_model.specs.Sides.{Side}
 use Rattle.hybrid_model.specs.Tallies.{Each}
 use Rattle.ikc_ring.specs.declared.Msg.{Msg}
 use Rattle.ikc_ring.specs.declared.Msg.TheVariants.{Ack, Answer, Clear, Fault, Interrupt, Reply, Request}
-use Rattle.kernel_model.specs.Nodes.{Node}
 use Rattle.lwk_side.specs.Shown.{shown_caller}
 use Rattle.lwk_side.specs.Wired.{CallersFit}
 use Rattle.lwk_side.specs.declared.task.Caller.{Caller}
@@ -20,7 +19,7 @@ use Rattle.offer_laws.specs.Small.{NumbersFit}
 use Rattle.pair_core.proofs.Fetched.{first-some}
 use Rattle.pair_core.specs.KernelRoom.{IsBuilt}
 use Rattle.std.proofs.Common.{ap, arith, refl, subst, sym, ◌∙◌}
-use Rattle.std.specs.Prelude.{List, None, Option, Some, [], option_map, ℕ, ℤ, ◌<◌, ◌^◌, ◌∷◌, ◌≡◌, ◌≤◌}
+use Rattle.std.specs.Prelude.{List, None, Some, [], option_map, ℕ, ℤ, ◌<◌, ◌∷◌, ◌≡◌, ◌≤◌}
 
 -- the first message is a reply
 pub takes-reply : (p : ℕ) (ms : List Msg) (q : Req) (code : ℤ) (h : Here) → head_of ms ≡ Some (Reply q code) → take_reply q.0 code (rest_of ms) h ≡ intake p ms h

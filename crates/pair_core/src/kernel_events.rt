@@ -42,7 +42,7 @@ impl<T: PageTable + Drop, F: FileStore> Parts<T, F> {
     }
 
     /// The process of the unsent line of that index, or process 0 where there is none.
-    fn process_of_line(&self, k: u32) -> Pid
+    pub(crate) fn process_of_line(&self, k: u32) -> Pid
         ensures { (files : Files) → result.0 ≡ of_line (line_of (node_of self.now.lwk.node files) k) }
     {
         match self.lwk.node.line(k) {

@@ -10,6 +10,7 @@ mod boot_guests;
 mod boot_script;
 mod booting;
 mod kernel_events;
+mod kernel_may;
 mod linux_may;
 mod linux_room;
 mod messages;

@@ -46,11 +46,11 @@ returns-clause-after g c =
     let same = sym c.thread_served-t.ensures in
     let files = c.give_back_without.ensures ∙ ap (λ o. files_after_answer o (served h.side.linux c.args.w).progress h.node.files) (c.answer_to-row.ensures h.side.linux) in
     after-is g.T.PageTable.rows g.F.FileStore.files x _ c.args.p.0 s _ (Answer c.args.p c.args.w) c.row_mut-side.ensures.value refl refl
-        (c.give_answer.ensures.event (record rest { files = g.F.FileStore.files c.give_back_without.new.files }) same
-        ∙ (λ i. with_node (with_side h (post_answer (ring_of h (sym same i)) c.args.w h.side)) ((ap (node_of x.lwk.node) files ∙ node-files x.lwk.node (g.F.FileStore.files x.files) _) i)))
+    (c.give_answer.ensures.event (record rest { files = g.F.FileStore.files c.give_back_without.new.files }) same
+    ∙ (λ i. with_node (with_side h (post_answer (ring_of h (sym same i)) c.args.w h.side)) ((ap (node_of x.lwk.node) files ∙ node-files x.lwk.node (g.F.FileStore.files x.files) _) i)))
 
 pub returns-clause-kept : goal.returns-clause-kept
 returns-clause-kept g c =
     let s = c.row_mut-side.result.now in
     kept-after g.T.PageTable.rows g.F.FileStore.files c.args.self.now _ c.args.p.0 s _ (Answer c.args.p c.args.w) c.requires.kept c.row_mut-side.ensures.value refl refl (returns-clause-after g c)
-        refl refl c.give_answer.ensures.rings.to_linux c.give_answer.ensures.rings.to_lwk
+    refl refl c.give_answer.ensures.rings.to_linux c.give_answer.ensures.rings.to_lwk

@@ -1,6 +1,6 @@
 use Rattle.hybrid_model.specs.Pairs.{Here}
 use Rattle.hybrid_model.specs.declared.events.Event.TheVariants.{BeginVm}
-use Rattle.kernel_model.specs.Nodes.{change_in, process_of, thread_of}
+use Rattle.kernel_model.specs.Nodes.{change_in, process_of}
 use Rattle.pair_core.proofs.Found.{after-is, has-row, may-here, row-there}
 use Rattle.pair_core.proofs.KernelFacts.{kept-after, process-is, wired}
 use Rattle.pair_core.proofs.Posting.{MayBegin, begin-is, begin-posts, may-begin-is, no-change, own-ring, place-of}
@@ -23,7 +23,7 @@ pub row_mut-side-requires : goal.row_mut-side-requires
 row_mut-side-requires g c =
     let x = c.args.self.now in
     has-row g.T.PageTable.rows g.F.FileStore.files x c.process_of_thread-p.result.0 (BeginVm c.args.t)
-        (process-is g.T.PageTable.rows g.F.FileStore.files x c.args.t.0 c.process_of_thread-p.result.0 c.process_of_thread-p.ensures) c.requires.ready
+    (process-is g.T.PageTable.rows g.F.FileStore.files x c.args.t.0 c.process_of_thread-p.result.0 c.process_of_thread-p.ensures) c.requires.ready
 
 pub begin_round-requires-clause-wired : goal.begin_round-requires-clause-wired
 begin_round-requires-clause-wired g c =
@@ -41,8 +41,8 @@ begin_round-requires-clause-place g c =
     let wires = wired g.T.PageTable.rows g.F.FileStore.files x p s there sound in
     let change = ap change_in (sym (c.does.ensures (g.F.FileStore.files x.files)) ∙ c.in-InVm.is) in
     place-of g.T.PageTable.rows g.F.FileStore.files x p s there (BeginVm c.args.t) c.args.t.0 process
-        (begin-posts p c.args.t.0 c.in-InVm.change h change refl (own-ring x.lwk s.channel.to_linux c.args.t.0 wires))
-        (c.no_ring_is_full.ensures.room (pair_of g.T.PageTable.rows g.F.FileStore.files x) (BeginVm c.args.t) sound.coherent c.requires.ready.may) c.requires.kept
+    (begin-posts p c.args.t.0 c.in-InVm.change h change refl (own-ring x.lwk s.channel.to_linux c.args.t.0 wires))
+    (c.no_ring_is_full.ensures.room (pair_of g.T.PageTable.rows g.F.FileStore.files x) (BeginVm c.args.t) sound.coherent c.requires.ready.may) c.requires.kept
 
 pub begin_round-requires-clause-none : goal.begin_round-requires-clause-none
 begin_round-requires-clause-none g c =
@@ -64,11 +64,11 @@ returns-clause-after g c =
     let change = ap change_in (sym (c.does.ensures (g.F.FileStore.files x.files)) ∙ c.in-InVm.is) in
     let range = c.closing_range-range.ensures (process_of h.node p) (sym (c.heap_base.ensures (g.F.FileStore.files x.files))) in
     after-is g.T.PageTable.rows g.F.FileStore.files x _ p s _ (BeginVm c.args.t) c.row_mut-side.ensures.value refl process
-        (c.begin_round.ensures.event (rest_of g.T.PageTable.rows g.F.FileStore.files x s)
-        ∙ begin-is p c.args.t.0 c.in-InVm.change c.closing_range-range.result h change range)
+    (c.begin_round.ensures.event (rest_of g.T.PageTable.rows g.F.FileStore.files x s)
+    ∙ begin-is p c.args.t.0 c.in-InVm.change c.closing_range-range.result h change range)
 
 pub returns-clause-kept : goal.returns-clause-kept
 returns-clause-kept g c =
     let s = c.row_mut-side.result.now in
     kept-after g.T.PageTable.rows g.F.FileStore.files c.args.self.now _ c.process_of_thread-p.result.0 s _ (BeginVm c.args.t) c.requires.kept c.row_mut-side.ensures.value refl refl (returns-clause-after g c)
-        refl refl c.begin_round.ensures.rings.to_linux c.begin_round.ensures.rings.to_lwk
+    refl refl c.begin_round.ensures.rings.to_linux c.begin_round.ensures.rings.to_lwk

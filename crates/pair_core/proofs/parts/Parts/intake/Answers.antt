@@ -1,8 +1,6 @@
 use Rattle.hybrid_model.specs.Lwk.{take_reply}
-use Rattle.hybrid_model.specs.Rings.{head_of, rest_of as rest}
+use Rattle.hybrid_model.specs.Rings.{rest_of as rest}
 use Rattle.hybrid_model.specs.declared.events.Event.TheVariants.{Intake}
-use Rattle.ikc_ring.specs.declared.Msg.TheVariants.{Fault, Reply}
-use Rattle.mck_word.specs.Maps.{each}
 use Rattle.pair_core.proofs.Found.{after-is, has-row, of-process}
 use Rattle.pair_core.proofs.KernelFacts.{kept-after}
 use Rattle.pair_core.proofs.Taken.{callers-fit, fault-of-worker, leaves-empty, leaves-other, takes-fault, takes-reply}
