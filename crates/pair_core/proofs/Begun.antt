@@ -1,4 +1,7 @@
 -- A trap that begins a call makes the ring of its thread longer.
+use Rattle.file_model.specs.Files.{Files}
+use Rattle.lwk_node.specs.Shown.{node_of}
+use Rattle.lwk_node.specs.declared.tables.Node.{Node}
 use Rattle.hybrid_model.specs.Lwk.{after_trap, begin_call, ran_last, trapped, view_here}
 use Rattle.hybrid_model.specs.Pairs.{Here, ring_of}
 use Rattle.hybrid_model.specs.Rings.{ring}
@@ -13,8 +16,10 @@ use Rattle.kernel_model.specs.Traps.{Begins, Trapped, arguments_of, past_ecall, 
 use Rattle.lwk_side.specs.Built.{begins_at, begins_call, is_delegated}
 use Rattle.mck_word.specs.declared.Regs.{Regs}
 use Rattle.pair_core.proofs.KernelFacts.{post-longer}
+use Rattle.pair_core.proofs.Posting.{Posts}
 use Rattle.std.proofs.Common.{ap, arith, refl, sym, ◌∙◌}
-use Rattle.std.specs.Prelude.{List, None, Option, Some, length, true, ℕ, ◌+◌, ◌<◌, ◌≡◌}
+use Rattle.std.proofs.lemmas.Bool.Decides.{nat_tests}
+use Rattle.std.specs.Prelude.{List, None, Option, Some, length, not, true, ℕ, ◌+◌, ◌<◌, ◌==◌, ◌≡◌}
 
 module _ (t free : ℕ) (v : View) where
   abbrev regs : Regs
@@ -43,12 +48,20 @@ module _ (t free : ℕ) (v : View) where
   trap-begins e = by-stop (stop_in (thread_of v.node t).does) e
 
 -- no process begins, and the ring has one message more
-pub begun-longer : (p t : ℕ) (h : Here) → begins_call h.node t ≡ true → ring_of h t < length h.side.to_linux
-    → ((after_trap p t h).born ≡ h.born) × (length (ring (ring_of h t) h.side.to_linux) < length (ring (ring_of h t) (after_trap p t h).side.to_linux))
+pub begun-posts : (p t : ℕ) (h : Here) → h.born ≡ None → begins_call h.node t ≡ true → ring_of h t < length h.side.to_linux → Posts t h (after_trap p t h)
 unfolding after_trap begin_call
-begun-longer p t h e below =
+begun-posts p t h none e below =
     let b = trap-begins t (length h.free) (view_here h) e in
     let is = b.1 in
-    let born = ap (λ (w : Trapped). (trapped p t w h).born) is in
+    let born = ap (λ (w : Trapped). (trapped p t w h).born) is ∙ none in
     let longer = ap (λ (w : Trapped). length (ring (ring_of h t) (trapped p t w h).side.to_linux)) is ∙ post-longer (ring_of h t) _ h.side.to_linux below in
-    (born, omega (arith, longer))
+    record { longer = omega (arith, longer); unborn = born }
+
+-- whether a call begins has nothing to do with the files
+pub begins-any : (n : Node) (t : ℕ) (files other : Files) → begins_call (node_of n files) t ≡ true → begins_call (node_of n other) t ≡ true
+unfolding node_of
+begins-any n t files other e = e
+
+-- a call that is built here is no futex call
+pub no-futex : (n : ℕ) → not (n == 98) ≡ true → n ≡ 98 → ⊥
+no-futex n e f = grind (arith, nat_tests, e, f)

@@ -1,6 +1,10 @@
-<<<<<<< HEAD
--- What of the lightweight kernel's events is built, and the memory that they need.
+-- The processes of the lightweight kernel's events, what of these is built, and the memory that they need.
 use Rattle.file_model.specs.Files.{Files}
+use Rattle.hybrid_laws.specs.LinuxHolds.{is_of_linux}
+use Rattle.hybrid_model.specs.Events.{process_of_event}
+use Rattle.hybrid_model.specs.declared.events.Event.{Event}
+use Rattle.ikc_ring.specs.declared.Msg.{Msg}
+use Rattle.ikc_ring.specs.declared.Msg.TheVariants.{Ack}
 use Rattle.isa_model.specs.Registers.{reg}
 use Rattle.kernel_model.specs.Nodes.{Node, thread_of}
 use Rattle.lwk_node.specs.Shown.{node_of}
@@ -8,23 +12,11 @@ use Rattle.lwk_side.specs.Built.{is_built_trap}
 use Rattle.mck_word.specs.Maps.{at}
 use Rattle.pair_core.specs.declared.parts.Parts.{Parts}
 use Rattle.pair_core.specs.declared.parts.Side.{Side}
-use Rattle.ikc_ring.specs.declared.Msg.{Msg}
-use Rattle.ikc_ring.specs.declared.Msg.TheVariants.{Ack}
-use Rattle.std.specs.Prelude.{Bool, Option, Some, not, ℕ, ◌&&◌, ◌==◌, ◌≡◌, ◌≤◌}
-=======
--- The processes of the lightweight kernel's events, and what of these is built.
-use Rattle.hybrid_laws.specs.LinuxHolds.{is_of_linux}
-use Rattle.hybrid_model.specs.Events.{process_of_event}
-use Rattle.hybrid_model.specs.declared.events.Event.{Event}
-use Rattle.ikc_ring.specs.declared.Msg.{Msg}
-use Rattle.ikc_ring.specs.declared.Msg.TheVariants.{Ack}
-use Rattle.kernel_model.specs.Nodes.{Node}
-use Rattle.std.specs.Prelude.{None, Option, Some, cond, ℕ}
+use Rattle.std.specs.Prelude.{Bool, None, Option, Some, cond, not, ℕ, ◌&&◌, ◌==◌, ◌≡◌, ◌≤◌}
 
 -- the process of an event of the lightweight kernel
 abbrev pub kernel_process : Node → Event → Option ℕ
 kernel_process node e = cond (is_of_linux e) None (Some (process_of_event node e))
->>>>>>> 4a5c6a7108c593dc35e52baef7dad6c3b404fe52
 
 -- an acknowledgement can't be taken yet
 abbrev pub IsBuilt : Option Msg → Type 0

@@ -11,7 +11,7 @@ pub row_mut-side-requires : goal.row_mut-side-requires
 row_mut-side-requires g c = has-row g.T.PageTable.rows g.F.FileStore.files c.args.self.now c.args.p.0 (Reap c.args.p) refl c.requires.ready
 
 pub reap-requires : goal.reap-requires
-reap-requires g c = sound-table g.T.PageTable.rows g.F.FileStore.files c.args.self.now c.args.p.0 c.row_mut-side.result.now c.row_mut-side.ensures.value c.requires.ready.sound.coherent c.requires.kept
+reap-requires g c = record { sound = sound-table g.T.PageTable.rows g.F.FileStore.files c.args.self.now c.args.p.0 c.row_mut-side.result.now c.row_mut-side.ensures.value c.requires.ready.sound.coherent c.requires.kept }
 
 pub returns-clause-after : goal.returns-clause-after
 returns-clause-after g c =

@@ -3,9 +3,10 @@ use Rattle.hybrid_model.specs.Pairs.{side_of}
 use Rattle.hybrid_model.specs.Sides.{Side as SideOf}
 use Rattle.hybrid_model.specs.declared.events.Event.TheVariants.{Trap}
 use Rattle.lwk_node.specs.Shown.{node_of}
-use Rattle.pair_core.proofs.Begun.{begun-longer}
+use Rattle.pair_core.proofs.Begun.{begins-any, begun-posts, no-futex}
 use Rattle.pair_core.proofs.Found.{after-is, has-row}
-use Rattle.pair_core.proofs.KernelFacts.{kept-after, place-in, process-is, side-is, sound-table, wired}
+use Rattle.pair_core.proofs.KernelFacts.{kept-after, process-is, side-is, sound-table, wired}
+use Rattle.pair_core.proofs.Posting.{own-ring, place-of}
 use Rattle.pair_core.proofs.parts.Parts.trap.Goals as goal
 use Rattle.pair_core.specs.Shown.{here_in, pair_of, rest_of}
 use Rattle.std.proofs.Common.{ap, arith, refl, sym, ◌∙◌}
@@ -17,7 +18,33 @@ row_mut-side-requires g c =
         (process-is g.T.PageTable.rows g.F.FileStore.files x c.args.t.0 c.process_of_thread-p.result.0 c.process_of_thread-p.ensures) c.requires.ready
 
 pub trap-requires : goal.trap-requires
-trap-requires g c = ?
+unfolding pair_of
+trap-requires g c =
+    let x = c.args.self.now in
+    let t = c.args.t.0 in
+    let p = c.process_of_thread-p.result.0 in
+    let s = c.row_mut-side.result.now in
+    let there = c.row_mut-side.ensures.value in
+    let sound = c.requires.ready.sound in
+    let pair = pair_of g.T.PageTable.rows g.F.FileStore.files x in
+    let process = process-is g.T.PageTable.rows g.F.FileStore.files x t p c.process_of_thread-p.ensures in
+    let h = here_in g.T.PageTable.rows g.F.FileStore.files x s in
+    let rings = wired g.T.PageTable.rows g.F.FileStore.files x p s there sound in
+    let room = c.requires.room p s there c.process_of_thread-p.ensures in
+    let next = (c.few.ensures.numbers pair sound.coherent sound.small).requests p in
+    let own = ap (λ (side : SideOf). side.book.next) (side-is g.T.PageTable.rows g.F.FileStore.files x p s there) in
+    record {
+      sound = sound-table g.T.PageTable.rows g.F.FileStore.files x p s there sound.coherent c.requires.kept;
+      wired = rings;
+      place = λ files e. place-of g.T.PageTable.rows g.F.FileStore.files x p s there (Trap c.args.t) t process
+          (begun-posts p t h refl (begins-any x.lwk.node t files (g.F.FileStore.files x.files) e) (own-ring x.lwk s.channel.to_linux t rings))
+          (c.no_ring_is_full.ensures.room pair (Trap c.args.t) sound.coherent c.requires.ready.may) c.requires.kept;
+      room = room.book;
+      callers = room.callers;
+      more = omega (arith, next, own);
+      rest = λ files e. absurd (no-futex _ (both _ _ (c.requires.built files)).1 e);
+      built = λ files. (both _ _ (c.requires.built files)).0;
+    }
 
 pub returns-clause-after : goal.returns-clause-after
 returns-clause-after g c =
