@@ -1,4 +1,4 @@
--- What no event changes: the numbers of cores, workers and rings, and the limit of instructions. And a process begins only where there are fewer than most.
+-- What no event changes: the numbers of cores, workers and rings, the limit of instructions and the number of frames. And a process begins only where there are fewer than most.
 use Rattle.hybrid_model.specs.declared.events.Event.TheVariants as Events
 use Rattle.file_model.specs.Files.{close_all}
 use Rattle.file_model.specs.Errno.{EAGAIN, EINVAL, ENOMEM}
@@ -17,18 +17,18 @@ use Rattle.isa_model.specs.declared.stops.Stop.{Stop}
 use Rattle.isa_model.specs.declared.stops.Stop.TheVariants.{Break, Ecall, Illegal, Misaligned, On, Fault as StopFault}
 use Rattle.kernel_model.specs.Calls.{local_call, one_of_calls}
 use Rattle.kernel_model.specs.CloneCalls.{CallDone, are_clone_flags, are_fork_flags, clone, clone_or_fork, cloned_thread, clones, forks, with_thread}
-use Rattle.kernel_model.specs.LocalCalls.{refuses}
+use Rattle.kernel_model.specs.LocalCalls.{refuses, wake}
 use Rattle.kernel_model.specs.MemoryCalls.{Decision, Now, Reply as DecidedReply, Round as DecidedRound, answer_of_change, decide, effect_of, refusal_at_end}
 use Rattle.kernel_model.specs.Nodes.{Node, Process, Sleeper, Thread, change_in, change_process, is_living, most_processes, most_threads, process_of, stop_in, thread_of, threads_of, ready_to_run}
 use Rattle.kernel_model.specs.Plans.{Delegated, Local, Plan, Unknown, Vm, plan}
-use Rattle.kernel_model.specs.Signals.{View, generate_for_process, on_node, raised, signal_of_stop, store}
+use Rattle.kernel_model.specs.Signals.{View, drop_ignored, generate_for_process, on_node, raised, signal_of_stop, store}
 use Rattle.kernel_model.specs.Traps.{Begins, Changes, Done, Forks, Ran, Trapped, arguments_of, called_back, cloned, decided, executed, finishes, life_ended, past_ecall, planned, process_ended, trap, trap_of_stop, wait_of, waited, waited_for}
 use Rattle.kernel_model.specs.declared.Change.{Change}
 use Rattle.mck_word.specs.Maps.{collect, count}
 use Rattle.mck_word.specs.Words.{has_bit, little_endian}
 use Rattle.mck_word.specs.declared.Access.TheVariants.{Write}
 use Rattle.mck_word.specs.declared.Regs.{Regs}
-use Rattle.std.proofs.Common.{arith, refl, ◌∙◌}
+use Rattle.std.proofs.Common.{ap, arith, refl, ◌∙◌}
 use Rattle.std.proofs.lemmas.Bool.Decides.{nat_tests}
 use Rattle.std.specs.Prelude.{zero, suc, Bool, List, None, Option, Some, [], cond, false, filter, get_or, length, nat_le, nat_lt, not, true, ℕ, ℤ, ◌<◌, ◌==◌, ◌∷◌, ◌≡◌}
 
@@ -100,12 +100,21 @@ sizes-stay (Events.Trap t) p h = go (trap t.0 (length h.free) (view_here h))
     go (Changes node change) = refl
     go (Forks v child stores) = refl
 
--- ---- the limit, which no call and no signal changes
-abbrev SameLimit : Node → Node → Type 0
-SameLimit a b = b.limit ≡ a.limit
+-- ---- the limit of instructions and the number of frames, which no call and no signal changes
+abbrev pub bounds : Node → ℕ × ℕ
+bounds node = (node.limit, node.frame_count)
 
-same-limit : (t : ℕ) → Closed t SameLimit SameLimit
-same-limit t = record {
+abbrev SameBounds : Node → Node → Type 0
+SameBounds a b = bounds b ≡ bounds a
+
+wake-same : (a : Node) (process address n : ℕ) → bounds (wake process address n a) ≡ bounds a
+wake-same a process address n = let g = wake-goes a process address n in (λ i. (g.limit i, g.frames i))
+
+ignored-same : (a : Node) (q signal : ℕ) → bounds (drop_ignored q signal a) ≡ bounds a
+ignored-same a q signal = let g = ignored-goes a q signal in (λ i. (g.limit i, g.frames i))
+
+same-bounds : (t : ℕ) → Closed t SameBounds SameBounds
+same-bounds t = record {
   same = λ a. refl;
   joined = λ a b c f g. g ∙ f;
   lift = λ a b f. f;
@@ -113,19 +122,19 @@ same-limit t = record {
   moves = λ a f h. refl;
   process = λ a q f h. refl;
   gone = λ a. refl;
-  woken = λ a process address n. (wake-goes a process address n).limit;
-  ignored = λ a q signal. (ignored-goes a q signal).limit;
+  woken = λ a process address n. wake-same a process address n;
+  ignored = λ a q signal. ignored-same a q signal;
   falls = λ a address. refl;
 }
 
-run-limit : (n t : ℕ) (v : Ran) → (run_for n t v).node.limit ≡ v.node.limit
-run-limit zero t v = refl
-run-limit (suc n) t v = go (ready_to_run (thread_of w.node t).does) (run-limit n t w)
+run-bounds : (n t : ℕ) (v : Ran) → bounds (run_for n t v).node ≡ bounds v.node
+run-bounds zero t v = refl
+run-bounds (suc n) t v = go (ready_to_run (thread_of w.node t).does) (run-bounds n t w)
   where
     w : Ran
     w = executed t v
 
-    go : (b : Bool) → (run_for n t w).node.limit ≡ w.node.limit → (cond b (run_for n t w) w).node.limit ≡ v.node.limit
+    go : (b : Bool) → bounds (run_for n t w).node ≡ bounds w.node → bounds (cond b (run_for n t w) w).node ≡ bounds v.node
     go true k = k
     go false k = refl
 
@@ -133,10 +142,10 @@ run-limit (suc n) t v = go (ready_to_run (thread_of w.node t).does) (run-limit n
 
 -- the limit stays, and there are fewer processes than most where one begins
 abbrev pub TrapLeaves : View → Trapped → Type 0
-TrapLeaves v (Done w) = SameLimit v.node w.node
-TrapLeaves v (Forks w child stores) = SameLimit v.node w.node × (count v.node.processes < most_processes)
-TrapLeaves v (Begins node progress) = SameLimit v.node node
-TrapLeaves v (Changes node change) = SameLimit v.node node
+TrapLeaves v (Done w) = SameBounds v.node w.node
+TrapLeaves v (Forks w child stores) = SameBounds v.node w.node × (count v.node.processes < most_processes)
+TrapLeaves v (Begins node progress) = SameBounds v.node node
+TrapLeaves v (Changes node change) = SameBounds v.node node
 
 module _ (t frames : ℕ) (v : View) where
   abbrev own_regs : Regs
@@ -145,7 +154,7 @@ module _ (t frames : ℕ) (v : View) where
   abbrev behind : View
   behind = past_ecall t v
 
-  tried : (b c : Bool) (a : ℕ) (bytes : List ℕ) (w : View) → (cond b (cond c (store a bytes w) w) w).node.limit ≡ w.node.limit
+  tried : (b c : Bool) (a : ℕ) (bytes : List ℕ) (w : View) → bounds (cond b (cond c (store a bytes w) w) w).node ≡ bounds w.node
   tried true true a bytes w = refl
   tried true false a bytes w = refl
   tried false c a bytes w = refl
@@ -191,7 +200,7 @@ module _ (t frames : ℕ) (v : View) where
       go : (b : Bool) → TrapLeaves v (cloned (clone_or_fork t frames (get_or arguments 0 0) (get_or arguments 1 0) (get_or arguments 2 0) (get_or arguments 3 0) (get_or arguments 4 0) behind))
           → TrapLeaves v (cloned (cond b (clone_or_fork t frames (get_or arguments 0 0) (get_or arguments 1 0) (get_or arguments 2 0) (get_or arguments 3 0) (get_or arguments 4 0) behind) (CallDone (one_of_calls t number (λ k. get_or arguments k 0) behind))))
       go true k = k
-      go false k = calls-closed t SameLimit SameLimit (same-limit t) number (λ k. get_or arguments k 0) behind
+      go false k = calls-closed t SameBounds SameBounds (same-bounds t) number (λ k. get_or arguments k 0) behind
 
   decided-leaves : (d : Decision) → TrapLeaves v (decided t behind d)
   decided-leaves (DecidedReply answer) = refl
@@ -208,8 +217,8 @@ module _ (t frames : ℕ) (v : View) where
   unfolding trap
   trap-leaves = go (stop_in (thread_of v.node t).does)
     where
-      raise : (z : Stop) → SameLimit v.node (raised t (signal_of_stop z) v.node)
-      raise z = raised-closed t SameLimit SameLimit (same-limit t) v.node (signal_of_stop z)
+      raise : (z : Stop) → SameBounds v.node (raised t (signal_of_stop z) v.node)
+      raise z = raised-closed t SameBounds SameBounds (same-bounds t) v.node (signal_of_stop z)
 
       go : (o : Option Stop) → TrapLeaves v (trap_of_stop t frames v o)
       go None = refl
@@ -221,13 +230,13 @@ module _ (t frames : ℕ) (v : View) where
       go (Some (StopFault l)) = raise (StopFault l)
 
 -- ---- every event
-finished-limit : (t : ℕ) (a : ℤ) (node : Node) → SameLimit node (finishes t a node)
-finished-limit t a node = finishes-closed t SameLimit SameLimit (same-limit t) node a
+finished-bounds : (t : ℕ) (a : ℤ) (node : Node) → SameBounds node (finishes t a node)
+finished-bounds t a node = finishes-closed t SameBounds SameBounds (same-bounds t) node a
 
 -- the end of a process
-ended-limit : (q : ℕ) (node : Node) → SameLimit node (process_ended q node)
+ended-bounds : (q : ℕ) (node : Node) → SameBounds node (process_ended q node)
 unfolding process_ended
-ended-limit q node = go (is_living told parent)
+ended-bounds q node = go (is_living told parent)
   where
     told : Node
     told = change_process q (λ (x : Process). record x { life = life_ended x.life }) (record node {
@@ -239,65 +248,65 @@ ended-limit q node = go (is_living told parent)
     parent : ℕ
     parent = (process_of node q).parent
 
-    go : (b : Bool) → (cond b (generate_for_process parent 17 told) told).limit ≡ node.limit
-    go true = for_process-closed 0 SameLimit SameLimit (same-limit 0) told parent 17
+    go : (b : Bool) → bounds (cond b (generate_for_process parent 17 told) told) ≡ bounds node
+    go true = for_process-closed 0 SameBounds SameBounds (same-bounds 0) told parent 17
     go false = refl
 
-pub limit-stays : (e : Event) (p : ℕ) (h : Here) → (after_here e p h).node.limit ≡ h.node.limit
+pub bounds-stay : (e : Event) (p : ℕ) (h : Here) → bounds (after_here e p h).node ≡ bounds h.node
 unfolding run after_trap after_deliver take_reply take_fault take_ack begin_round post_answer post_interrupt reap miss copy act_file park_here unpark_here finish_here ack_clear waited called_back
-limit-stays (Events.Run core t n) p h = run-limit n t.0 (record { node = h.node; memory = memory_here h })
-limit-stays (Events.Deliver t) p h = deliver-closed t.0 SameLimit SameLimit (same-limit t.0) (view_here h)
-limit-stays (Events.Answer q w) p h = refl
-limit-stays (Events.Wait t) p h = go (wait_of (thread_of h.node t.0).does)
+bounds-stay (Events.Run core t n) p h = run-bounds n t.0 (record { node = h.node; memory = memory_here h })
+bounds-stay (Events.Deliver t) p h = deliver-closed t.0 SameBounds SameBounds (same-bounds t.0) (view_here h)
+bounds-stay (Events.Answer q w) p h = refl
+bounds-stay (Events.Wait t) p h = go (wait_of (thread_of h.node t.0).does)
   where
-    go : (o : Option (ℤ × ℕ)) → (waited_for t.0 (view_here h) o).node.limit ≡ h.node.limit
+    go : (o : Option (ℤ × ℕ)) → bounds (waited_for t.0 (view_here h) o).node ≡ bounds h.node
     go None = refl
-    go (Some w) = wait_over-closed t.0 SameLimit SameLimit (same-limit t.0) w.0 w.1 (view_here h)
-limit-stays (Events.Reap q) p h = ended-limit p h.node
-limit-stays (Events.Script i) p h = script-closed 0 SameLimit SameLimit (same-limit 0) i h.node (λ a unsent. refl)
-limit-stays (Events.Assign q w) p h = refl
-limit-stays (Events.Miss q w) p h = refl
-limit-stays (Events.Pin q w) p h = refl
-limit-stays (Events.Copy q w) p h = refl
-limit-stays (Events.Unpin q w) p h = refl
-limit-stays (Events.Act q w) p h = refl
-limit-stays (Events.Park q w) p h = refl
-limit-stays (Events.Unpark q n) p h = refl
-limit-stays (Events.Finish q w) p h = refl
-limit-stays (Events.AckClear q) p h = refl
-limit-stays (Events.Fetch q r) p h = go (ring r h.side.to_linux)
+    go (Some w) = wait_over-closed t.0 SameBounds SameBounds (same-bounds t.0) w.0 w.1 (view_here h)
+bounds-stay (Events.Reap q) p h = ended-bounds p h.node
+bounds-stay (Events.Script i) p h = script-closed 0 SameBounds SameBounds (same-bounds 0) i h.node (λ a unsent. refl)
+bounds-stay (Events.Assign q w) p h = refl
+bounds-stay (Events.Miss q w) p h = refl
+bounds-stay (Events.Pin q w) p h = refl
+bounds-stay (Events.Copy q w) p h = refl
+bounds-stay (Events.Unpin q w) p h = refl
+bounds-stay (Events.Act q w) p h = refl
+bounds-stay (Events.Park q w) p h = refl
+bounds-stay (Events.Unpark q n) p h = refl
+bounds-stay (Events.Finish q w) p h = refl
+bounds-stay (Events.AckClear q) p h = refl
+bounds-stay (Events.Fetch q r) p h = go (ring r h.side.to_linux)
   where
-    go : (ms : List Msg) → (fetch_from r ms h).node.limit ≡ h.node.limit
+    go : (ms : List Msg) → bounds (fetch_from r ms h).node ≡ bounds h.node
     go [] = refl
     go (m ∷ ms) = refl
-limit-stays (Events.BeginVm t) p h = go (change_in (thread_of h.node t.0).does)
+bounds-stay (Events.BeginVm t) p h = go (change_in (thread_of h.node t.0).does)
   where
-    go : (o : Option Change) → (begin_vm_of p t.0 o h).node.limit ≡ h.node.limit
+    go : (o : Option Change) → bounds (begin_vm_of p t.0 o h).node ≡ bounds h.node
     go None = refl
     go (Some c) = refl
-limit-stays (Events.Interrupt t) p h = go (is_calling h.side t.0)
+bounds-stay (Events.Interrupt t) p h = go (is_calling h.side t.0)
   where
-    go : (o : Bool) → (interrupt_as o t.0 h).node.limit ≡ h.node.limit
-    go true = moved-closed 0 SameLimit SameLimit (same-limit 0) h.node t.0
+    go : (o : Bool) → bounds (interrupt_as o t.0 h).node ≡ bounds h.node
+    go true = moved-closed 0 SameBounds SameBounds (same-bounds 0) h.node t.0
     go false = refl
-limit-stays (Events.Intake q) p h = go h.side.to_lwk
+bounds-stay (Events.Intake q) p h = go h.side.to_lwk
   where
     t : ℕ
     t = changing_thread h.side
 
-    reply : (code : ℤ) (ms : List Msg) (o : Option ℕ) → (take_reply_of o code ms h).node.limit ≡ h.node.limit
+    reply : (code : ℤ) (ms : List Msg) (o : Option ℕ) → bounds (take_reply_of o code ms h).node ≡ bounds h.node
     reply code ms None = refl
-    reply code ms (Some u) = returns-closed u SameLimit SameLimit (same-limit u) h.node code
+    reply code ms (Some u) = returns-closed u SameBounds SameBounds (same-bounds u) h.node code
 
-    made : (ms : List Msg) (c : Change) (o : Option ℤ) → (changed p t c o (with_side h (round_over ms h.side))).node.limit ≡ h.node.limit
-    made ms c None = finished-limit t (answer_of_change c) (set_break p (effect_of (process_of h.node p) c).program_break h.node)
-    made ms c (Some answer) = finished-limit t answer h.node
+    made : (ms : List Msg) (c : Change) (o : Option ℤ) → bounds (changed p t c o (with_side h (round_over ms h.side))).node ≡ bounds h.node
+    made ms c None = finished-bounds t (answer_of_change c) (set_break p (effect_of (process_of h.node p) c).program_break h.node)
+    made ms c (Some answer) = finished-bounds t answer h.node
 
-    ack : (ms : List Msg) (o : Option Change) → (change_made_of p t o (with_side h (round_over ms h.side))).node.limit ≡ h.node.limit
+    ack : (ms : List Msg) (o : Option Change) → bounds (change_made_of p t o (with_side h (round_over ms h.side))).node ≡ bounds h.node
     ack ms None = refl
     ack ms (Some c) = made ms c (refusal_at_end (process_of h.node p) (memory_here (with_side h (round_over ms h.side))) (length h.free) c)
 
-    go : (ms : List Msg) → (intake p ms h).node.limit ≡ h.node.limit
+    go : (ms : List Msg) → bounds (intake p ms h).node ≡ bounds h.node
     go [] = refl
     go (Request c ∷ ms) = refl
     go (Clear range ∷ ms) = refl
@@ -306,10 +315,16 @@ limit-stays (Events.Intake q) p h = go h.side.to_lwk
     go (Reply n code ∷ ms) = reply code ms (caller_of h.side.lwk.callers n.0)
     go (Ack ∷ ms) = ack ms (change_in (thread_of h.node t).does)
     go (Fault w page a ∷ ms) = refl
-limit-stays (Events.Trap t) p h = go (trap t.0 (length h.free) (view_here h)) (trap-leaves t.0 (length h.free) (view_here h))
+bounds-stay (Events.Trap t) p h = go (trap t.0 (length h.free) (view_here h)) (trap-leaves t.0 (length h.free) (view_here h))
   where
-    go : (y : Trapped) → TrapLeaves (view_here h) y → (trapped p t.0 y h).node.limit ≡ h.node.limit
+    go : (y : Trapped) → TrapLeaves (view_here h) y → bounds (trapped p t.0 y h).node ≡ bounds h.node
     go (Done v) s = s
     go (Begins node progress) s = s
-    go (Changes node change) s = finished-limit t.0 (answer_of_change change) (set_break p (effect_of (process_of node p) change).program_break node) ∙ s
+    go (Changes node change) s = finished-bounds t.0 (answer_of_change change) (set_break p (effect_of (process_of node p) change).program_break node) ∙ s
     go (Forks v child stores) s = s.0
+
+pub limit-stays : (e : Event) (p : ℕ) (h : Here) → (after_here e p h).node.limit ≡ h.node.limit
+limit-stays e p h = ap (λ b. b.0) (bounds-stay e p h)
+
+pub frame-count-stays : (e : Event) (p : ℕ) (h : Here) → (after_here e p h).node.frame_count ≡ h.node.frame_count
+frame-count-stays e p h = ap (λ b. b.1) (bounds-stay e p h)

@@ -5,3 +5,4 @@ pub mod Copied
 pub mod Fetched
 pub mod FewCalls
 pub mod Linux
+pub mod MayLinux

@@ -1,10 +1,10 @@
--- The memory that the events of the Linux side need.
+-- The processes of the events of the Linux side, and the memory that they need.
 use Rattle.file_calls.specs.Rooms.{Room}
 use Rattle.file_model.specs.Files.{Files}
 use Rattle.file_model.specs.declared.descriptions.Target.{Target}
 use Rattle.hybrid_model.specs.Rings.{head_of, ring}
 use Rattle.hybrid_model.specs.declared.events.Event.{Event}
-use Rattle.hybrid_model.specs.declared.events.Event.TheVariants.{Act, Copy, Fetch, Unpark}
+use Rattle.hybrid_model.specs.declared.events.Event.TheVariants.{AckClear, Act, Assign, Copy, Fetch, Finish, Miss, Park, Pin, Unpark, Unpin}
 use Rattle.ikc_ring.specs.declared.Msg.{Msg}
 use Rattle.ikc_ring.specs.declared.Msg.TheVariants as messages
 use Rattle.mck_word.specs.Maps.{at}
@@ -13,7 +13,22 @@ use Rattle.pair_core.specs.declared.parts.Side.{Side}
 use Rattle.proxy_worker.specs.Fits.{HasActRoom, HasCopyRoom}
 use Rattle.proxy_worker.specs.Shown.{HasMirrorRoom, HasServiceRoom, HasTurnRoom}
 use Rattle.proxy_worker.specs.declared.proxy.Proxy.{Proxy}
-use Rattle.std.specs.Prelude.{Option, Some, ℕ, ◌≡◌}
+use Rattle.std.specs.Prelude.{None, Option, Some, ℕ, ◌≡◌}
+
+-- the process of an event of the Linux side
+abbrev pub linux_process : Event → Option ℕ
+linux_process (Fetch p r) = Some p.0
+linux_process (Assign p w) = Some p.0
+linux_process (Miss p w) = Some p.0
+linux_process (Pin p w) = Some p.0
+linux_process (Copy p w) = Some p.0
+linux_process (Unpin p w) = Some p.0
+linux_process (Act p w) = Some p.0
+linux_process (Park p w) = Some p.0
+linux_process (Unpark p q) = Some p.0
+linux_process (Finish p w) = Some p.0
+linux_process (AckClear p) = Some p.0
+linux_process _ = None
 
 -- the first message of a ring can be taken without memory
 abbrev pub HasFetchRoom : Option Msg → Proxy → Type 0

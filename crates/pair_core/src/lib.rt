@@ -4,6 +4,8 @@
 //! state that the two kernels reach (specs/Ready). What takes memory has its room made before.
 #![tactic(auto)]
 
+mod kernel_events;
+mod linux_may;
 mod parks;
 mod parts;
 mod pieces;
