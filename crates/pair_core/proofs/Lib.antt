@@ -5,4 +5,5 @@ pub mod Copied
 pub mod Fetched
 pub mod FewCalls
 pub mod Linux
+pub mod MadeRoom
 pub mod MayLinux

@@ -33,7 +33,7 @@ fetch-requires g c =
     let f = finds g.T.PageTable.rows g.F.FileStore.files c.args.self.now c.args.p.0 c.row_mut-side.result.now (Fetch c.args.p c.args.r) c.row_mut-side.ensures.value refl c.requires.ready in
     let h : Here = here_in g.T.PageTable.rows g.F.FileStore.files c.args.self.now c.row_mut-side.result.now in
     let first = first-some (ring c.args.r h.side.to_linux) c.in-Some.m (sym c.take.ensures.value ∙ c.in-Some.is) in
-    let few : c.row_mut-side.result.now.task.begun < 2 ^ 64 = subst (λ n. n < 2 ^ 64) c.rounds_begun-begun.ensures c.rounds_begun-begun.type_inv.fits in
+    let few : c.row_mut-side.result.now.task.begun < 2 ^ 64 = subst (λ n. n < 2 ^ 64) c.rounds_begun-begun.ensures c.rounds_begun-begun.type_inv in
     fetch-fits c.args.p.0 c.row_mut-side.result.now.proxy h.side h.node h.workers _ f.whole few c.args.r c.in-Some.m first.0 first.1
       (subst (λ o. HasFetchRoom o c.row_mut-side.result.now.proxy) (ap head_of first.1) (c.requires.room c.row_mut-side.result.now c.row_mut-side.ensures.value))
 
