@@ -9,7 +9,7 @@ use Rattle.kernel_model.specs.Progress.{next_piece}
 use Rattle.mck_word.specs.Maps.{at}
 use Rattle.mck_word.specs.declared.Pid.{Pid}
 use Rattle.page_pins.specs.declared.Pin.{Pin}
-use Rattle.std.proofs.Common.{ap, refl, sym, ◌∙◌}
+use Rattle.std.proofs.Common.{ap, sym, ◌∙◌}
 use Rattle.std.specs.Prelude.{Some, false, true, ℕ, ◌≡◌}
 
 same-pin : (x y : Pin) → Some x ≡ Some y → x ≡ y

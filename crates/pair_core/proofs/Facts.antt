@@ -15,11 +15,11 @@ use Rattle.pair_core.proofs.FewCalls.{few-calls}
 use Rattle.pair_core.proofs.Found.{here-is, may-here, of-process}
 use Rattle.pair_core.specs.Kept.{Kept, Takes}
 use Rattle.pair_core.specs.Ready.{IsSound, Ready}
-use Rattle.pair_core.specs.Shown.{here_in, pair_of, shown_side}
+use Rattle.pair_core.specs.Shown.{here_in, pair_of}
 use Rattle.pair_core.specs.declared.parts.Parts.{Parts}
 use Rattle.pair_core.specs.declared.parts.Side.{Side}
 use Rattle.std.proofs.Common.{ap, arith, refl, subst, sym, ◌∙◌}
-use Rattle.std.specs.Prelude.{Bool, Option, Some, cond, false, length, true, ℕ, ◌+◌, ◌<◌, ◌==◌, ◌≡◌, ◌≤◌}
+use Rattle.std.specs.Prelude.{Bool, Some, cond, false, length, true, ℕ, ◌+◌, ◌<◌, ◌==◌, ◌≡◌, ◌≤◌}
 
 module _ {T F : Type 0} (rows : T → Map Row) (files : F → Files) (x : Parts T F) (p : ℕ) (s : Side T) where
   pub record Finds (e : Event) : Type 0 where

@@ -4,12 +4,12 @@ use Rattle.hybrid_laws.specs.Reading.{Each-map}
 use Rattle.hybrid_laws.specs.Written.{each-entry}
 use Rattle.hybrid_model.specs.Coherence.{OfProcess}
 use Rattle.hybrid_model.specs.Globals.{Coherent, description_held, holders, is_number, ring_number}
-use Rattle.hybrid_model.specs.Pairs.{Pair, side_of}
+use Rattle.hybrid_model.specs.Pairs.{Pair}
 use Rattle.hybrid_model.specs.Shown.{status_of}
 use Rattle.hybrid_model.specs.Sides.{Caller, Side, new_side}
 use Rattle.hybrid_model.specs.Tallies.{Each}
 use Rattle.mck_word.specs.MapLaws.{at-put}
-use Rattle.mck_word.specs.Maps.{Map, at, count, entries, no_rows, put, total}
+use Rattle.mck_word.specs.Maps.{Map, at, count, entries, no_rows, put}
 use Rattle.offer_laws.specs.Rows.{count-fewer, count-none, count-put, count-same}
 use Rattle.offer_laws.specs.Small.{Small}
 use Rattle.std.specs.FinMap as finmap

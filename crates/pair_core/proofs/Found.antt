@@ -3,7 +3,7 @@ use Rattle.file_model.specs.Files.{Files}
 use Rattle.hybrid_model.specs.Coherence.{OfProcess}
 use Rattle.hybrid_model.specs.Events.{after, after_here, may_here, process_of_event}
 use Rattle.hybrid_model.specs.Globals.{Coherent, ring_number}
-use Rattle.hybrid_model.specs.Pairs.{Here, Pair, here, put_here}
+use Rattle.hybrid_model.specs.Pairs.{Here, here, put_here}
 use Rattle.hybrid_model.specs.Sides.{Row, new_side}
 use Rattle.hybrid_model.specs.declared.events.Event.{Event}
 use Rattle.kernel_model.specs.Nodes.{has_process, is_ended, is_there}

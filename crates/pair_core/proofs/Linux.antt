@@ -12,7 +12,7 @@ use Rattle.mck_word.specs.Maps.{at}
 use Rattle.request_book.specs.declared.ReqState.{ReqState}
 use Rattle.request_book.specs.declared.ReqState.TheVariants.{Held, Waiting}
 use Rattle.std.proofs.Common.{ap, refl, sym, ◌∙◌}
-use Rattle.std.specs.Prelude.{List, [], is_some, length, not, true, unwrap_or, ℕ, ◌==◌, ◌∷◌, ◌≡◌}
+use Rattle.std.specs.Prelude.{is_some, length, not, true, unwrap_or, ℕ, ◌==◌, ◌∷◌, ◌≡◌}
 
 -- a worker that serves a request that is Held holds it
 pub held-holds : (l : LinuxSide) (b : Book) (w : ℕ) → Serves l b w Held → holds l b w ≡ true

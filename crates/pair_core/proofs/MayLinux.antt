@@ -16,7 +16,7 @@ use Rattle.pair_core.specs.Shown.{here_in, pair_of}
 use Rattle.pair_core.specs.declared.parts.Parts.{Parts}
 use Rattle.pair_core.specs.declared.parts.Side.{Side}
 use Rattle.std.proofs.Common.{ap, arith, refl, sym, ◌∙◌}
-use Rattle.std.specs.Prelude.{Bool, IsSome, None, Option, Some, false, is_some, true, ℕ, ◌&&◌, ◌≡◌}
+use Rattle.std.specs.Prelude.{Bool, None, Option, Some, false, is_some, true, ℕ, ◌&&◌, ◌≡◌}
 
 same-number : (a b : ℕ) → Some a ≡ Some b → a ≡ b
 same-number a b e = cc

@@ -23,10 +23,8 @@ impl<T: PageTable + Drop, F: FileStore> Parts<T, F> {
         ensures kept { Kept self.new }
     {
         let side = self.sides.row_mut(p.0 as u64);
-        side.proxy
-            .give_up_turn(w, &self.files, p, &mut self.turns);
-        side.proxy
-            .park(w, &mut self.files, &mut side.channel.book);
+        side.proxy.give_up_turn(w, &self.files, p, &mut self.turns);
+        side.proxy.park(w, &mut self.files, &mut side.channel.book);
     }
 
     /// A parked request waits for a worker again, and takes the turn where its step is ready.
@@ -38,8 +36,7 @@ impl<T: PageTable + Drop, F: FileStore> Parts<T, F> {
         ensures kept { Kept self.new }
     {
         let side = self.sides.row_mut(p.0 as u64);
-        side.proxy
-            .take_turn(q, &self.files, p, &mut self.turns);
+        side.proxy.take_turn(q, &self.files, p, &mut self.turns);
         Proxy::unpark(q, &mut side.channel.book);
     }
 

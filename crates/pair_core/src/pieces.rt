@@ -27,8 +27,7 @@ impl<T: PageTable + Drop, F: FileStore> Parts<T, F> {
         };
         // The table has the page, so its number is low.
         let _row = side.task.space.table().get(pin.page);
-        side.proxy
-            .give_up_turn(w, &self.files, p, &mut self.turns);
+        side.proxy.give_up_turn(w, &self.files, p, &mut self.turns);
         let page = self.lwk.frames.page_mut(pin.frame);
         side.proxy
             .copy(w, &mut self.files, p, page, &mut side.channel.book);
@@ -43,8 +42,7 @@ impl<T: PageTable + Drop, F: FileStore> Parts<T, F> {
         ensures kept { Kept self.new }
     {
         let side = self.sides.row_mut(p.0 as u64);
-        side.proxy
-            .give_up_turn(w, &self.files, p, &mut self.turns);
+        side.proxy.give_up_turn(w, &self.files, p, &mut self.turns);
         side.proxy
             .act(w, &mut self.files, p, &mut side.channel.book);
     }

@@ -58,8 +58,7 @@ impl<T: PageTable + Drop, F: FileStore> Parts<T, F> {
         ensures kept { Kept self.new }
     {
         let side = self.sides.row_mut(p.0 as u64);
-        side.proxy
-            .give_up_turn(w, &self.files, p, &mut self.turns);
+        side.proxy.give_up_turn(w, &self.files, p, &mut self.turns);
         let fault = side.proxy.miss(w, &mut side.channel.book);
         side.channel.to_lwk.post(fault);
     }

@@ -1,7 +1,6 @@
 use Rattle.hybrid_model.specs.Events.{ack_clear}
 use Rattle.hybrid_model.specs.Pairs.{Here}
 use Rattle.hybrid_model.specs.declared.events.Event.TheVariants.{AckClear}
-use Rattle.mck_word.specs.Maps.{at}
 use Rattle.pair_core.proofs.Facts.{finds, has-place, kept-put}
 use Rattle.pair_core.proofs.Found.{after-is, has-row}
 use Rattle.pair_core.proofs.parts.Parts.ack_clear.Goals as goal

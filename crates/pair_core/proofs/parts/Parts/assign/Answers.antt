@@ -1,11 +1,10 @@
-use Rattle.hybrid_laws.specs.Assign.{MayAssign, may-assign}
+use Rattle.hybrid_laws.specs.Assign.{may-assign}
 use Rattle.hybrid_laws.specs.Tests.{both}
 use Rattle.hybrid_model.specs.Events.{has_worker, with_linux}
 use Rattle.hybrid_model.specs.Linux.{may_assign}
 use Rattle.hybrid_model.specs.Pairs.{Here}
 use Rattle.hybrid_model.specs.declared.events.Event.TheVariants.{Assign}
-use Rattle.mck_word.specs.Maps.{at}
-use Rattle.pair_core.proofs.Facts.{Finds, finds, kept-put, worker-small}
+use Rattle.pair_core.proofs.Facts.{finds, kept-put, worker-small}
 use Rattle.pair_core.proofs.Found.{after-is, has-row}
 use Rattle.pair_core.proofs.Linux.{waiting-served}
 use Rattle.pair_core.proofs.parts.Parts.assign.Goals as goal

@@ -3,7 +3,7 @@ use Rattle.hybrid_laws.specs.Tests.{both}
 use Rattle.hybrid_model.specs.Events.{copy, copy_to, has_worker}
 use Rattle.hybrid_model.specs.Linux.{may_copy, moved_by}
 use Rattle.hybrid_model.specs.Pairs.{Here}
-use Rattle.hybrid_model.specs.Sides.{no_pin, pin_of}
+use Rattle.hybrid_model.specs.Sides.{no_pin}
 use Rattle.hybrid_model.specs.Spaces.{frame_bytes}
 use Rattle.hybrid_model.specs.declared.events.Event.TheVariants.{Copy}
 use Rattle.kernel_model.specs.Nodes.{set_files}

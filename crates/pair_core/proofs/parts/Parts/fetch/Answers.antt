@@ -3,14 +3,13 @@ use Rattle.hybrid_model.specs.Pairs.{Here, with_side}
 use Rattle.hybrid_model.specs.Rings.{head_of, rest_of, ring, with_ring}
 use Rattle.hybrid_model.specs.declared.events.Event.TheVariants.{Fetch}
 use Rattle.ikc_ring.specs.declared.Msg.{Msg}
-use Rattle.mck_word.specs.Maps.{at}
 use Rattle.pair_core.proofs.Facts.{finds, kept-put}
 use Rattle.pair_core.proofs.Fetched.{fetch-fits, first-some, no-first}
 use Rattle.pair_core.proofs.Found.{after-is, has-row}
 use Rattle.pair_core.proofs.parts.Parts.fetch.Goals as goal
 use Rattle.pair_core.specs.LinuxRoom.{HasFetchRoom}
 use Rattle.pair_core.specs.Shown.{here_in}
-use Rattle.std.proofs.Common.{ap, refl, subst, sym, ◌∙◌, ℕ}
+use Rattle.std.proofs.Common.{ap, refl, subst, sym, ◌∙◌}
 use Rattle.std.specs.Prelude.{List, ◌<◌, ◌^◌, ◌∷◌, ◌≡◌}
 
 pub row_mut-side-requires : goal.row_mut-side-requires
@@ -35,7 +34,7 @@ fetch-requires g c =
     let first = first-some (ring c.args.r h.side.to_linux) c.in-Some.m (sym c.take.ensures.value ∙ c.in-Some.is) in
     let few : c.row_mut-side.result.now.task.begun < 2 ^ 64 = subst (λ n. n < 2 ^ 64) c.rounds_begun-begun.ensures c.rounds_begun-begun.type_inv in
     fetch-fits c.args.p.0 c.row_mut-side.result.now.proxy h.side h.node h.workers _ f.whole few c.args.r c.in-Some.m first.0 first.1
-      (subst (λ o. HasFetchRoom o c.row_mut-side.result.now.proxy) (ap head_of first.1) (c.requires.room c.row_mut-side.result.now c.row_mut-side.ensures.value))
+    (subst (λ o. HasFetchRoom o c.row_mut-side.result.now.proxy) (ap head_of first.1) (c.requires.room c.row_mut-side.result.now c.row_mut-side.ensures.value))
 
 pub returns-clause-after : goal.returns-clause-after
 returns-clause-after g c =

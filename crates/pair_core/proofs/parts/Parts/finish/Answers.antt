@@ -3,7 +3,6 @@ use Rattle.hybrid_model.specs.Events.{finish_here, has_worker}
 use Rattle.hybrid_model.specs.Linux.{may_finish}
 use Rattle.hybrid_model.specs.Pairs.{Here, with_side}
 use Rattle.hybrid_model.specs.declared.events.Event.TheVariants.{Finish}
-use Rattle.mck_word.specs.Maps.{at}
 use Rattle.pair_core.proofs.Facts.{finds, has-place, kept-put}
 use Rattle.pair_core.proofs.Found.{after-is, has-row}
 use Rattle.pair_core.proofs.parts.Parts.finish.Goals as goal

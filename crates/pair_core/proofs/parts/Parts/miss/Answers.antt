@@ -1,10 +1,8 @@
 use Rattle.hybrid_laws.specs.Miss.{may-miss}
 use Rattle.hybrid_model.specs.Events.{miss}
-use Rattle.hybrid_model.specs.Linux.{holds}
 use Rattle.hybrid_model.specs.Pairs.{Here, with_side}
 use Rattle.hybrid_model.specs.declared.events.Event.TheVariants.{Miss}
 use Rattle.lwk_node.specs.Shown.{node_of}
-use Rattle.mck_word.specs.Maps.{at}
 use Rattle.pair_core.proofs.Facts.{finds, has-place, kept-put}
 use Rattle.pair_core.proofs.Found.{after-is, has-row}
 use Rattle.pair_core.proofs.Linux.{held-holds}

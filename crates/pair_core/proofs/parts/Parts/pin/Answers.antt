@@ -1,7 +1,6 @@
 use Rattle.hybrid_laws.specs.Pin.{may-pin}
 use Rattle.hybrid_model.specs.Pairs.{Here, with_side}
 use Rattle.hybrid_model.specs.declared.events.Event.TheVariants.{Pin}
-use Rattle.mck_word.specs.Maps.{at}
 use Rattle.pair_core.proofs.Facts.{finds, kept-put, worker-small}
 use Rattle.pair_core.proofs.Found.{after-is, has-row}
 use Rattle.pair_core.proofs.parts.Parts.pin.Goals as goal

@@ -1,9 +1,8 @@
 use Rattle.hybrid_laws.specs.Tests.{both}
 use Rattle.hybrid_model.specs.Events.{has_worker}
-use Rattle.hybrid_model.specs.Linux.{has_pin, holds, is_copied, may_unpin}
+use Rattle.hybrid_model.specs.Linux.{has_pin, may_unpin}
 use Rattle.hybrid_model.specs.Pairs.{Here, with_side}
 use Rattle.hybrid_model.specs.declared.events.Event.TheVariants.{Unpin}
-use Rattle.mck_word.specs.Maps.{at}
 use Rattle.pair_core.proofs.Facts.{finds, kept-put}
 use Rattle.pair_core.proofs.Found.{after-is, has-row}
 use Rattle.pair_core.proofs.parts.Parts.unpin.Goals as goal
