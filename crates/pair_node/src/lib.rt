@@ -4,6 +4,7 @@
 //! actor offers (ihk_parts) and whether an event may happen, and each event of it is the definition's event.
 #![tactic(auto)]
 
+mod may;
 mod pair;
 
 pub use pair::Pair;

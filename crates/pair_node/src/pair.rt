@@ -16,11 +16,11 @@ pub struct Pair<T: PageTable, F: FileStore> {
     pub parts: Parts<T, F>,
     pub pids: Vec<Pid>,
     pub ghost sound: { ∥ IsSound (pair_of T.rows F.files parts) ∥₁ },
-    pub ghost kept: { ∥ Kept parts ∥₁ },
+    pub ghost kept: { Kept parts },
     pub ghost numbered: { map (λ p. p.0) pids.items ≡ keys (pair_of T.rows F.files parts).node.processes },
 }
 
-impl<T: PageTable, F: FileStore> Pair<T, F> {
+impl<T: PageTable + Drop, F: FileStore> Pair<T, F> {
     /// The numbers of the processes that were made, rising.
     pub fn pids(&self) -> &[Pid]
         ensures { map (λ p. p.0) result.now ≡ keys (pair_of T.rows F.files self.now.parts).node.processes }
