@@ -1,16 +1,18 @@
 // When an event may happen.
 ghost use Rattle.hybrid_laws.specs.LinuxHolds.{is_of_linux};
 ghost use Rattle.hybrid_model.specs.Events.{may, may_here, process_of_event};
+ghost use Rattle.hybrid_model.specs.Rings.{all_empty};
 ghost use Rattle.hybrid_model.specs.declared.events.Event.TheVariants.{Script};
 ghost use Rattle.hybrid_model.specs.Globals.{Coherent};
-ghost use Rattle.hybrid_model.specs.Lwk.{may_reap, may_run_for};
+ghost use Rattle.hybrid_model.specs.Lwk.{left_of_limit, may_reap, may_run_for};
 ghost use Rattle.file_model.specs.Files.{Files};
 ghost use Rattle.lwk_node.specs.Shown.{node_of};
 ghost use Rattle.pair_core.specs.Shown.{here_in, pair_of};
-ghost use Rattle.std.specs.Prelude.{◌&&◌, ◌≡◌, ◌≤◌, not};
+ghost use Rattle.std.specs.Prelude.{◌&&◌, ◌==◌, ◌≡◌, ◌≤◌, is_none, length, nat_le, not};
 
 use file_calls::store::FileStore;
 use hybrid_model::Event;
+use ikc_channel::Channel;
 use lwk_node::Node;
 use lwk_side::may_answer;
 use mck_word::{Pid, Tid};
@@ -56,8 +58,14 @@ fn process_of_event(node: &Node, event: Event) -> Pid
     }
 }
 
+// Whether a run may be of so many instructions.
+fn count_fits(node: &Node, count: u32) -> bool
+    ensures { (files : Files) → result ≡ (nat_le 1 count && nat_le count 64 && nat_le count (left_of_limit (node_of node.now files))) }
+{
+    1 <= count && count <= 64 && u64::from(count) <= node.left_of_limit()
+}
+
 // Whether the thread may run so many instructions on the core.
-#[tactic(auto, unfolding(lwk_node::specs::Shown::node_of))]
 fn may_run_for<T: PageTable + Drop, F: FileStore>(
     parts: &Parts<T, F>,
     side: &Side<T>,
@@ -70,13 +78,19 @@ fn may_run_for<T: PageTable + Drop, F: FileStore>(
 {
     parts.lwk.node.may_run(t)
         && t.0 % parts.lwk.cores == core
-        && 1 <= count
-        && count <= 64
-        && u64::from(count) <= parts.lwk.node.left_of_limit()
+        && count_fits(&parts.lwk.node, count)
+}
+
+// Whether no round is under way and the rings are empty.
+fn is_quiet(channel: &Channel) -> bool
+    ensures { result ≡ (is_none channel.now.round && all_empty channel.now.to_linux.messages && length channel.now.to_lwk.items == 0) }
+{
+    channel.round.now().is_none()
+        && channel.to_linux.are_empty()
+        && channel.to_lwk.head().is_none()
 }
 
 // Whether the process may be reaped: no thread of it is left, no round is under way, and its rings are empty.
-#[tactic(auto, unfolding(lwk_node::specs::Shown::node_of))]
 fn may_reap<T: PageTable + Drop, F: FileStore>(
     parts: &Parts<T, F>,
     side: &Side<T>,
@@ -84,10 +98,7 @@ fn may_reap<T: PageTable + Drop, F: FileStore>(
 ) -> bool
     ensures { result ≡ may_reap p.0 (here_in T.rows F.files parts.now side.now) }
 {
-    parts.lwk.node.may_end(p)
-        && side.channel.round.now().is_none()
-        && side.channel.to_linux.are_empty()
-        && side.channel.to_lwk.head().is_none()
+    parts.lwk.node.may_end(p) && is_quiet(&side.channel)
 }
 
 // Whether the event is of the lightweight kernel and may happen in the process.

@@ -1,11 +1,14 @@
 // The parts of the two kernels in a state that they reach.
+ghost use Rattle.hybrid_model.specs.Events.{may};
 ghost use Rattle.mck_word.specs.Maps.{keys};
 ghost use Rattle.pair_core.specs.Kept.{Kept};
 ghost use Rattle.pair_core.specs.Ready.{IsSound};
 ghost use Rattle.pair_core.specs.Shown.{pair_of};
 ghost use Rattle.std.specs.Prelude.{◌≡◌, map};
 
+use crate::may::may;
 use file_calls::store::FileStore;
+use hybrid_model::Event;
 use mck_word::Pid;
 use page_map::PageTable;
 use pair_core::Parts;
@@ -26,5 +29,12 @@ impl<T: PageTable + Drop, F: FileStore> Pair<T, F> {
         ensures { map (λ p. p.0) result.now ≡ keys (pair_of T.rows F.files self.now.parts).node.processes }
     {
         &self.pids
+    }
+
+    /// Whether the event may happen.
+    pub fn may(&self, event: &Event) -> bool
+        ensures { result ≡ may (pair_of T.rows F.files self.now.parts) event.now }
+    {
+        may(&self.parts, *event)
     }
 }
