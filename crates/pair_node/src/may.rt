@@ -76,26 +76,18 @@ fn may_run_for<T: PageTable + Drop, F: FileStore>(
     requires { 1 ≤ parts.now.lwk.cores }
     ensures { result ≡ may_run_for core t.0 count (here_in T.rows F.files parts.now side.now) }
 {
-    parts.lwk.node.may_run(t)
-        && t.0 % parts.lwk.cores == core
-        && count_fits(&parts.lwk.node, count)
+    parts.lwk.node.may_run(t) && t.0 % parts.lwk.cores == core && count_fits(&parts.lwk.node, count)
 }
 
 // Whether no round is under way and the rings are empty.
 fn is_quiet(channel: &Channel) -> bool
     ensures { result ≡ (is_none channel.now.round && all_empty channel.now.to_linux.messages && length channel.now.to_lwk.items == 0) }
 {
-    channel.round.now().is_none()
-        && channel.to_linux.are_empty()
-        && channel.to_lwk.head().is_none()
+    channel.round.now().is_none() && channel.to_linux.are_empty() && channel.to_lwk.head().is_none()
 }
 
 // Whether the process may be reaped: no thread of it is left, no round is under way, and its rings are empty.
-fn may_reap<T: PageTable + Drop, F: FileStore>(
-    parts: &Parts<T, F>,
-    side: &Side<T>,
-    p: Pid,
-) -> bool
+fn may_reap<T: PageTable + Drop, F: FileStore>(parts: &Parts<T, F>, side: &Side<T>, p: Pid) -> bool
     ensures { result ≡ may_reap p.0 (here_in T.rows F.files parts.now side.now) }
 {
     parts.lwk.node.may_end(p) && is_quiet(&side.channel)

@@ -1,6 +1,6 @@
 -- What holds of one process is had from there being some proof of it: mirror, rounds and messages.
 use Rattle.clear_rounds.specs.contracts.Phase as phase
-use Rattle.hybrid_model.specs.Coherence.{AnswerCovered, AtMostInterrupt, AtMostRequest, CallsAgree, ClearIsOf, Covered, Covers, Directions, InOwnRing, Includes, InterruptIs, IsOutside, IsPart, Marked, Messages, NotAhead, OnlyOwn, Owned, Owns, Placed, RequestIs, Rounded, goes_to_linux, of_place, state_at}
+use Rattle.hybrid_model.specs.Coherence.{AnswerCovered, AtMostInterrupt, AtMostRequest, CallsAgree, ClearIsOf, Covered, Covers, Directions, InOwnRing, Includes, InterruptIs, IsOutside, IsPart, Marked, Messages, NotAhead, OnlyOwn, Owned, Owns, Placed, RequestIs, Rounded, of_place, state_at}
 use Rattle.hybrid_model.specs.Sides.{Caller, Round, Row, Service}
 use Rattle.hybrid_model.specs.Tallies.{Reads}
 use Rattle.ikc_ring.specs.contracts.Call as call
@@ -12,19 +12,17 @@ use Rattle.kernel_model.specs.Nodes.{Process, Thread, change_in}
 use Rattle.kernel_model.specs.contracts.Does as does
 use Rattle.kernel_model.specs.declared.Change.{Change}
 use Rattle.kernel_model.specs.declared.Does.TheVariants.{InVm}
-use Rattle.mck_flags.specs.contracts.rights.Rights as rights
 use Rattle.mck_word.specs.contracts.Frame as frame
 use Rattle.mck_word.specs.contracts.PageRange as page_range
 use Rattle.mck_word.specs.declared.PageRange.{PageRange}
 use Rattle.page_pins.specs.declared.Pin.{Pin}
 use Rattle.request_book.specs.contracts.ReqState as request_state
 use Rattle.request_book.specs.declared.ReqState.{ReqState}
-use Rattle.request_book.specs.declared.ReqState.TheVariants.{Posted}
-use Rattle.std.proofs.Common.{ap, refl}
+use Rattle.std.proofs.Common.{ap}
 use Rattle.std.proofs.Math.Logic.{∥∥₁_map}
 use Rattle.std.specs.Coded.{coded_option, coded×}
 use Rattle.std.specs.Prelude.{List, None, Option, Some, [], ℕ, ◌∷◌, ◌≡◌}
-use Rattle.told_states.specs.Told.{Found, Told, bool-told, data-told, each-told, found-told, le-told, lt-told, maybe-told, nat-told, never-told, none-told, numbered-told, rings-told}
+use Rattle.told_states.specs.Told.{Found, Told, bool-told, data-told, each-told, found-told, le-told, lt-told, nat-told, never-told, none-told, numbered-told, rings-told}
 
 -- ---- what the proxy may reach
 
@@ -103,7 +101,7 @@ own-told process p range x t = record {
 owns-told : (process : Process) (threads : Reads Thread) (p k : ℕ) (range : PageRange) → Told (Owns process threads p k range)
 owns-told process threads p k range t =
     let x : Found (threads k) (OwnIs process p range) = found-told (own-told process p range) (threads k)
-        (∥∥₁_map t (λ y. record { value = y.thread; there = y.there; rest = record { own = y.own; change = record { value = y.change; there = ap change_in y.does; rest = record { does = y.does; range_is = y.range_is } } } })) in
+    (∥∥₁_map t (λ y. record { value = y.thread; there = y.there; rest = record { own = y.own; change = record { value = y.change; there = ap change_in y.does; rest = record { does = y.does; range_is = y.range_is } } } })) in
     record { thread = x.value; there = x.there; own = x.rest.own; change = x.rest.change.value; does = x.rest.change.rest.does; range_is = x.rest.change.rest.range_is }
 
 pub owned-told : (process : Process) (threads : Reads Thread) (p : ℕ) (o : Option Round) (c : Option ℕ) → Told (Owned process threads p o c)

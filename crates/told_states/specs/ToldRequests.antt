@@ -1,5 +1,5 @@
 -- What holds of the requests of one process is had from there being some proof of it.
-use Rattle.hybrid_model.specs.Coherence.{Answered, AnswerIsFor, AnswersNext, CallHolds, FaultIsFor, IsAwaited, IsForNext, NotedIsFor, PinServes, ReplyIsAwaited, Served, calls_it, is_faulted, service_at, state_at}
+use Rattle.hybrid_model.specs.Coherence.{Answered, AnswerIsFor, AnswersNext, CallHolds, FaultIsFor, IsAwaited, IsForNext, PinServes, ReplyIsAwaited, Served, calls_it, is_faulted, service_at, state_at}
 use Rattle.hybrid_model.specs.Sides.{Caller, Noted, Row, Service}
 use Rattle.hybrid_model.specs.Tallies.{Reads}
 use Rattle.ikc_ring.specs.declared.Call.{Call}
@@ -16,7 +16,7 @@ use Rattle.request_book.specs.declared.ReqState.TheVariants.{Held}
 use Rattle.std.proofs.Common.{ap, arith, refl, subst, sym, ◌∙◌}
 use Rattle.std.proofs.Math.Logic.{∥∥₁_map}
 use Rattle.std.proofs.lemmas.Bool.Decides.{nat_tests}
-use Rattle.std.specs.Prelude.{Bool, List, None, Option, Some, false, true, ℕ, ◌==◌, ◌≡◌}
+use Rattle.std.specs.Prelude.{List, None, Option, Some, false, true, ℕ, ◌≡◌}
 use Rattle.told_states.specs.Told.{Found, Passes, Told, bool-told, data-told, each-told, found-told, le-told, lt-told, maybe-told, nat-told, none-told, passes-told, rings-told}
 
 -- ---- what faults, answers and pins are for
@@ -36,7 +36,7 @@ next-told services page a number t = record {
 for-next-told : (workers : Reads ℕ) (services : Reads Service) (w page : ℕ) (a : Access) → Told (IsForNext workers services w page a)
 for-next-told workers services w page a t =
     let x : Found (workers w) (NextIs services page a) = found-told (next-told services page a) (workers w)
-        (∥∥₁_map t (λ y. record { value = y.number; there = y.serves; rest = record { left = y.left; page_is = y.page_is; access_is = y.access_is } })) in
+    (∥∥₁_map t (λ y. record { value = y.number; there = y.serves; rest = record { left = y.left; page_is = y.page_is; access_is = y.access_is } })) in
     record { number = x.value; serves = x.there; left = x.rest.left; page_is = x.rest.page_is; access_is = x.rest.access_is }
 
 fault-for-told : (workers : Reads ℕ) (services : Reads Service) (m : Msg) → Told (FaultIsFor workers services m)
@@ -58,11 +58,11 @@ answer-next-told services page row number t = record {
 answers-next-told : (workers : Reads ℕ) (services : Reads Service) (w page : ℕ) (row : Option Row) → Told (AnswersNext workers services w page row)
 answers-next-told workers services w page row t =
     let x : Found (workers w) (AnswerNextIs services page row) = found-told (answer-next-told services page row) (workers w)
-        (∥∥₁_map t (λ y. record {
-          value = y.next.number;
-          there = y.next.serves;
-          rest = record { left = y.next.left; page_is = y.next.page_is; right = λ r e. subst (λ (a : Access). allows a r.1 ≡ true) (sym y.next.access_is) (y.right r e) };
-        })) in
+    (∥∥₁_map t (λ y. record {
+      value = y.next.number;
+      there = y.next.serves;
+      rest = record { left = y.next.left; page_is = y.next.page_is; right = λ r e. subst (λ (a : Access). allows a r.1 ≡ true) (sym y.next.access_is) (y.right r e) };
+    })) in
     record {
       access = needed_access (service_at services x.value).progress;
       next = record { number = x.value; serves = x.there; left = x.rest.left; page_is = x.rest.page_is; access_is = refl };
@@ -92,7 +92,7 @@ pin-next-told rows services x number t = record {
 pin-serves-told : (workers : Reads ℕ) (rows : Reads (ReqState × Call)) (services : Reads Service) (w : ℕ) (x : Pin) → Told (PinServes workers rows services w x)
 pin-serves-told workers rows services w x t =
     let y : Found (workers w) (PinNextIs rows services x) = found-told (pin-next-told rows services x) (workers w)
-        (∥∥₁_map t (λ z. record { value = z.number; there = z.serves; rest = record { not_faulted = z.not_faulted; held = z.held; left = z.left; page_is = z.page_is; right = z.right } })) in
+    (∥∥₁_map t (λ z. record { value = z.number; there = z.serves; rest = record { not_faulted = z.not_faulted; held = z.held; left = z.left; page_is = z.page_is; right = z.right } })) in
     record { number = y.value; serves = y.there; not_faulted = y.rest.not_faulted; held = y.rest.held; left = y.rest.left; page_is = y.rest.page_is; right = y.rest.right }
 
 pub served-told : (worker_count : ℕ) (workers : Reads ℕ) (rows : Reads (ReqState × Call)) (services : Reads Service) (pins : Reads Pin) (waiting : List ℕ) (noted : Reads Noted) (rings : List (List Msg)) (bs : List Msg)

@@ -1,7 +1,7 @@
 -- Coherence of a whole state is had from there being some proof of it, and so is what lasts and what is small.
-use Rattle.hybrid_laws.specs.Lasting.{IsTold, Lasting, MarksTold}
+use Rattle.hybrid_laws.specs.Lasting.{Lasting}
 use Rattle.hybrid_model.specs.Coherence.{OfProcess}
-use Rattle.hybrid_model.specs.Globals.{CallsHold, Coherent, Empty, Frames, FramesCounted, HeapHolds, IsUnderWay, Known, NumbersPaid, Places, Rising, RingsAre, Sleeping, StatusHolds, TurnHolds, ring_number, table_of}
+use Rattle.hybrid_model.specs.Globals.{Coherent, Empty, Frames, FramesCounted, HeapHolds, IsUnderWay, Known, Places, Rising, Sleeping, StatusHolds, TurnHolds, ring_number, table_of}
 use Rattle.hybrid_model.specs.Pairs.{Pair, side_of}
 use Rattle.hybrid_model.specs.Sides.{Row, Side, Turn}
 use Rattle.hybrid_model.specs.Tallies.{Reads}
@@ -13,7 +13,7 @@ use Rattle.kernel_model.specs.Progress.{Progress}
 use Rattle.kernel_model.specs.contracts.Does as does
 use Rattle.kernel_model.specs.declared.Does.TheVariants.{Asleep}
 use Rattle.mck_flags.specs.contracts.rights.Rights as rights
-use Rattle.mck_word.specs.Maps.{Map, at, no_rows}
+use Rattle.mck_word.specs.Maps.{at, no_rows}
 use Rattle.mck_word.specs.contracts.Access as access
 use Rattle.mck_word.specs.contracts.Frame as frame
 use Rattle.offer_laws.specs.Small.{Small}
@@ -22,7 +22,7 @@ use Rattle.std.proofs.Common.{ap, arith, refl}
 use Rattle.std.proofs.Math.Logic.{∥∥₁_map}
 use Rattle.std.specs.Coded.{coded_ℕ, coded×}
 use Rattle.std.specs.FinMap as finmap
-use Rattle.std.specs.Prelude.{List, None, Option, Some, [], length, ℕ, ◌∷◌, ◌≡◌}
+use Rattle.std.specs.Prelude.{List, [], length, ℕ, ◌∷◌, ◌≡◌}
 use Rattle.told_states.specs.Told.{Found, Told, bool-told, data-told, found-told, le-told, lt-told, maybe-told, nat-told, never-told, none-told, rings-told}
 use Rattle.told_states.specs.ToldProcess.{calls-told, covered-told, directions-told, interrupt-told, marked-told, messages-told, owned-told, request-told, rounded-told}
 use Rattle.told_states.specs.ToldRequests.{answered-told, served-told}
