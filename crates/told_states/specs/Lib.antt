@@ -1,0 +1,4 @@
+pub mod Told
+pub mod ToldProcess
+pub mod ToldRequests
+pub mod ToldState
