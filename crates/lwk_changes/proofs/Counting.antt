@@ -1,6 +1,6 @@
 -- Present pages of a range, counted from a page on.
 use Rattle.hybrid_laws.specs.Effects.{count-inside, inside}
-use Rattle.hybrid_laws.specs.Sums.{counted_at, sum_of, total-cut-by}
+use Rattle.hybrid_laws.specs.Sums.{counted_at, total-cut-by}
 use Rattle.hybrid_laws.specs.Written.{each-entry}
 use Rattle.hybrid_model.specs.Tallies.{Each}
 use Rattle.isa_model.specs.Memory.{Memory, Page}
@@ -12,8 +12,8 @@ use Rattle.mck_word.specs.Pages.{in_range}
 use Rattle.mck_word.specs.declared.PageRange.{PageRange}
 use Rattle.std.proofs.Common.{ap, arith, inl, inr, refl, sym, ◌∙◌}
 use Rattle.std.proofs.lemmas.Bool.Decides.{nat_tests}
-use Rattle.std.proofs.lemmas.Bool.{cases_eq, cases_lt, ne_eqb}
-use Rattle.std.specs.Prelude.{Bool, List, None, Option, Some, [], cond, false, filter, if◌then◌else◌, is_some, length, map, suc, true, zero, ℕ, ◌+◌, ◌<◌, ◌==◌, ◌∷◌, ◌≡◌, ◌≢◌, ◌≤◌}
+use Rattle.std.proofs.lemmas.Bool.{cases_eq, cases_lt}
+use Rattle.std.specs.Prelude.{Bool, List, None, Option, Some, [], cond, false, filter, if◌then◌else◌, is_some, length, map, suc, true, zero, ℕ, ◌+◌, ◌<◌, ◌==◌, ◌∷◌, ◌≡◌, ◌≤◌}
 
 -- two tests that agree on the keys
 count-same : (m : Memory) (f g : ℕ → Bool) → ((k : ℕ) (x : Page) → at m k ≡ Some x → f k ≡ g k) → ◌≡◌ {A = ℕ} (length (filter f (keys m))) (length (filter g (keys m)))

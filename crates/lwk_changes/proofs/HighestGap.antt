@@ -10,9 +10,9 @@ use Rattle.lwk_changes.proofs.Counting.{none-counted}
 use Rattle.mck_word.specs.Lists.{insert_by, sorted_by}
 use Rattle.mck_word.specs.Maps.{at, entries, keys}
 use Rattle.mck_word.specs.Pages.{in_range}
-use Rattle.std.proofs.Common.{ap, arith, inl, inr, refl, subst, sym, ◌∙◌}
+use Rattle.std.proofs.Common.{ap, arith, inl, inr, refl, sym, ◌∙◌}
 use Rattle.std.proofs.lemmas.Bool.Decides.{nat_tests}
-use Rattle.std.proofs.lemmas.Bool.{cases_eq, cases_lt}
+use Rattle.std.proofs.lemmas.Bool.{cases_eq}
 use Rattle.std.specs.Option.{ForSome}
 use Rattle.std.specs.Prelude.{Bool, List, None, Option, Some, [], cond, false, find, is_some, map, nat_le, nat_lt, option_map, true, ℕ, ◌&&◌, ◌+◌, ◌-◌, ◌<◌, ◌==◌, ◌^◌, ◌∷◌, ◌≡◌, ◌≢◌, ◌≤◌, ◌⊎◌}
 use Rattle.vm_areas.specs.Gaps.{IsGap, IsHighestGap}

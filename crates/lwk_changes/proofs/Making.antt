@@ -4,9 +4,8 @@ use Rattle.hybrid_laws.specs.Dropping.{shown_drops, shown_space}
 use Rattle.hybrid_laws.specs.Effects.{drops-none, length-dropped}
 use Rattle.hybrid_model.specs.Sides.{Row}
 use Rattle.hybrid_model.specs.Spaces.{Space, drop_page, shown_memory, shown_row}
-use Rattle.isa_model.specs.Memory.{Memory, Page}
 use Rattle.kernel_model.specs.MemoryCalls.{all_present, count_present, exceeds}
-use Rattle.kernel_model.specs.Pages.{page_end, pages_count, range}
+use Rattle.kernel_model.specs.Pages.{pages_count, range}
 use Rattle.kernel_model.specs.Spaces.{OneSpace, each_in, each_page}
 use Rattle.lwk_changes.proofs.Counting.{all-there}
 use Rattle.lwk_changes.proofs.Shown.{absent-shown, memory-shown, there-shown}
@@ -18,7 +17,7 @@ use Rattle.mck_word.specs.Pages.{in_range}
 use Rattle.mck_word.specs.declared.PageRange.{PageRange}
 use Rattle.std.proofs.Common.{ap, arith, refl, sym, ◌∙◌}
 use Rattle.std.proofs.lemmas.Bool.Decides.{nat_tests}
-use Rattle.std.specs.Prelude.{List, None, Option, Some, false, length, nat_lt, option_map, true, ℕ, ◌+◌, ◌-◌, ◌<◌, ◌==◌, ◌≡◌, ◌≤◌}
+use Rattle.std.specs.Prelude.{List, None, Option, Some, false, length, nat_lt, option_map, true, ℕ, ◌+◌, ◌-◌, ◌<◌, ◌≡◌, ◌≤◌}
 
 inside-is : (r : PageRange) (j : ℕ) → r.lo ≤ j → j < r.hi → in_range r j ≡ true
 inside-is r j a b = grind (arith, nat_tests, a, b)

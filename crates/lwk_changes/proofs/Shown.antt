@@ -11,10 +11,10 @@ use Rattle.lwk_tables.specs.Frames.{frames_map}
 use Rattle.lwk_tables.specs.Lacks.{memory}
 use Rattle.mck_flags.specs.declared.rights.Rights.{Rights}
 use Rattle.mck_word.specs.EachLaws.{at-each}
-use Rattle.mck_word.specs.Maps.{Map, at, entries, some_row}
+use Rattle.mck_word.specs.Maps.{Map, at, entries}
 use Rattle.mck_word.specs.Pages.{in_range}
 use Rattle.mck_word.specs.declared.PageRange.{PageRange}
-use Rattle.std.proofs.Common.{ap, arith, refl, sym, ◌∙◌}
+use Rattle.std.proofs.Common.{ap, refl, sym, ◌∙◌}
 use Rattle.std.specs.List.{list_any}
 use Rattle.std.specs.Prelude.{Bool, List, None, Option, Some, [], false, is_some, option_map, true, ℕ, ◌&&◌, ◌||◌, ◌∷◌, ◌≡◌}
 

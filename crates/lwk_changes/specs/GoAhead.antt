@@ -6,7 +6,7 @@ use Rattle.kernel_model.specs.Nodes.{Process}
 use Rattle.kernel_model.specs.Pages.{page_end, pages_count, range}
 use Rattle.kernel_model.specs.declared.Change.{Change}
 use Rattle.kernel_model.specs.declared.Change.TheVariants.{Brk, Map as ChangeMap, Protect, Unmap}
-use Rattle.lwk_changes.specs.Conditions.{GoesAhead, RisesBy}
+use Rattle.lwk_changes.specs.Conditions.{GoesAhead}
 use Rattle.mck_flags.specs.declared.rights.Rights.{Rights}
 use Rattle.mck_word.specs.Words.{has_bit, refused}
 use Rattle.mck_word.specs.declared.PageRange.{PageRange}

@@ -3,7 +3,6 @@ use Rattle.lwk_changes.proofs.Shown.{memory-shown}
 use Rattle.lwk_tables.specs.Lacks.{memory}
 use Rattle.std.proofs.Common.{◌≡◌, ap, arith, subst, sym, ◌∙◌}
 use Rattle.std.proofs.lemmas.Bool.Decides.{nat_tests}
-use Rattle.std.specs.Prelude.{◌==◌}
 use Rattle.lwk_changes.proofs.facts_for_call.Goals as goal
 
 pub returns-then-call-eq226-clause-describes : goal.returns-then-call-eq226-clause-describes

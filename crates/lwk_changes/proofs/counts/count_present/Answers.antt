@@ -3,7 +3,7 @@ use Rattle.lwk_changes.proofs.Counting.{count-here, count-skip, none-counted}
 use Rattle.lwk_changes.proofs.Shown.{shown-absent, shown-there}
 use Rattle.mck_word.specs.Pages.{in_range}
 use Rattle.page_map.specs.NextLaws.{next-none, next-some}
-use Rattle.std.proofs.Common.{◌≡◌, ◌+◌, ◌<◌, ◌≤◌, arith, refl, sym, true, ℕ, ◌∙◌}
+use Rattle.std.proofs.Common.{◌≡◌, ◌<◌, ◌≤◌, arith, refl, sym, true, ℕ, ◌∙◌}
 use Rattle.std.proofs.lemmas.Bool.Decides.{nat_tests}
 use Rattle.std.specs.Prelude.{None, Option, Some}
 use Rattle.lwk_changes.proofs.counts.count_present.Goals as goal

@@ -6,9 +6,9 @@ use Rattle.mck_flags.specs.declared.rights.Rights.{Rights}
 use Rattle.mck_word.specs.Maps.{Map, at}
 use Rattle.mck_word.specs.Pages.{in_range}
 use Rattle.page_map.specs.NextLaws.{next-none, next-some}
-use Rattle.std.proofs.Common.{◌≡◌, ◌+◌, ◌<◌, ◌≤◌, ap, arith, false, inl, inr, refl, sym, true, ℕ, ◌∙◌}
+use Rattle.std.proofs.Common.{◌≡◌, ◌<◌, ◌≤◌, ap, arith, false, inl, inr, refl, sym, true, ℕ, ◌∙◌}
 use Rattle.std.proofs.lemmas.Bool.Decides.{nat_tests}
-use Rattle.std.proofs.lemmas.Bool.{cases_eq, cases_lt}
+use Rattle.std.proofs.lemmas.Bool.{cases_lt}
 use Rattle.std.specs.Prelude.{None, Option, Some}
 use Rattle.lwk_changes.proofs.counts.lessens_any.Goals as goal
 
