@@ -31,8 +31,7 @@ impl<T: PageTable + Drop, F: FileStore> Parts<T, F> {
         few();
         let p = self.lwk.node.process_of_thread(t);
         let side = self.sides.row_mut(p.0 as u64);
-        self.lwk
-            .trap(&mut side.task, &mut side.channel, p, t);
+        self.lwk.trap(&mut side.task, &mut side.channel, p, t);
     }
 
     /// The process is Ended: its pages, its mirror, its threads and its descriptors go.

@@ -18,11 +18,11 @@ returns-clause-after g c =
     let x = c.args.self.now in
     let s = c.row_mut-side.result.now in
     after-is g.T.PageTable.rows g.F.FileStore.files x _ c.args.p.0 s _ (Reap c.args.p) c.row_mut-side.ensures.value refl refl
-        (ap (λ (r : Rest). here_of c.reap.new.self (g.T.PageTable.rows c.reap.new.task.space.table) c.reap.new.task s.channel r)
-            (λ j. record { linux = c.drop_mirror.ensures j; files = c.close_all.ensures j; turns = turns_of x.turns; workers = x.workers })
-        ∙ c.reap.ensures.event s.channel (rest_of g.T.PageTable.rows g.F.FileStore.files x s))
+    (ap (λ (r : Rest). here_of c.reap.new.self (g.T.PageTable.rows c.reap.new.task.space.table) c.reap.new.task s.channel r)
+    (λ j. record { linux = c.drop_mirror.ensures j; files = c.close_all.ensures j; turns = turns_of x.turns; workers = x.workers })
+    ∙ c.reap.ensures.event s.channel (rest_of g.T.PageTable.rows g.F.FileStore.files x s))
 
 pub returns-clause-kept : goal.returns-clause-kept
 returns-clause-kept g c =
     kept-after g.T.PageTable.rows g.F.FileStore.files c.args.self.now _ c.args.p.0 c.row_mut-side.result.now _ (Reap c.args.p) c.requires.kept c.row_mut-side.ensures.value refl refl (returns-clause-after g c)
-        c.reap.ensures.frames.pages c.reap.ensures.frames.pool refl refl
+    c.reap.ensures.frames.pages c.reap.ensures.frames.pool refl refl
