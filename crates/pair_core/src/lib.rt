@@ -6,6 +6,7 @@
 
 mod kernel_events;
 mod kernel_may;
+mod kernel_room;
 mod linux_may;
 mod linux_room;
 mod messages;
