@@ -1,23 +1,18 @@
 -- Room that is made in a process's row: the parts show the same, and the row found has the room.
 use Rattle.file_model.specs.Files.{Files}
-use Rattle.hybrid_model.specs.Events.{of_thread}
 use Rattle.hybrid_model.specs.Pairs.{put_here}
 use Rattle.hybrid_model.specs.Sides.{Row}
-use Rattle.kernel_model.specs.Nodes.{thread_of}
-use Rattle.lwk_node.specs.Shown.{node_of}
-use Rattle.lwk_side.specs.declared.kernel.Lwk.{Lwk}
 use Rattle.mck_word.specs.EachLaws.{at-each}
 use Rattle.mck_word.specs.MapLaws.{at-put}
 use Rattle.mck_word.specs.Maps.{Map, at, each, put}
 use Rattle.pair_core.proofs.Found.{put-back}
-use Rattle.pair_core.specs.KernelRoom.{HasCallRoom, HasTrapRoom}
 use Rattle.pair_core.specs.Shown.{here_in, pair_of, shown_side}
 use Rattle.pair_core.specs.declared.parts.Parts.{Parts}
 use Rattle.pair_core.specs.declared.parts.Side.{Side}
 use Rattle.proxy_worker.proofs.Parts.{put-same}
 use Rattle.std.proofs.Common.{ap, arith, subst, sym, ◌∙◌}
 use Rattle.std.proofs.lemmas.Bool.Decides.{nat_tests}
-use Rattle.std.specs.Prelude.{Some, cond, option_map, true, ℕ, ◌==◌, ◌≡◌, ◌≤◌}
+use Rattle.std.specs.Prelude.{Some, cond, option_map, true, ℕ, ◌==◌, ◌≡◌}
 
 -- what holds of the row that was put in holds of the row found
 pub room-put : {V : Type 0} (m : Map V) (p : ℕ) (t : V) (P : V → Type 0) → P t → (u : V) → at (put m p t) p ≡ Some u → P u
@@ -34,10 +29,3 @@ module _ {T F : Type 0} (rows : T → Map Row) (files : F → Files) (x y : Part
       put-back rows files x y p t puts ∙ ap (put_here (pair_of rows files x) p) h
       ∙ ap (λ sides. record (pair_of rows files x) { sides = sides })
       (put-same (each (shown_side rows) x.sides.map) p (shown_side rows s) (at-each (shown_side rows) x.sides.map p ∙ ap (option_map (shown_side rows)) there))
-
--- a trap has its room where a sleeper and a call of its process have it
-pub trap-room : {T F : Type 0} (files : F → Files) (x y : Parts T F) (t p : ℕ) → y.lwk ≡ x.lwk → ((other : Files) → p ≡ (thread_of (node_of x.lwk.node other) t).process) → 1 ≤ x.lwk.node.sleepers.spare
-    → ((s : Side T) → at y.sides.map p ≡ Some s → HasCallRoom s) → HasTrapRoom y (of_thread (node_of y.lwk.node (files y.files)) t)
-trap-room files x y t p same process sleeper call =
-    subst (λ q. HasTrapRoom y q) (process (files y.files) ∙ ap (λ (l : Lwk). (thread_of (node_of l.node (files y.files)) t).process) (sym same))
-    (record { sleeper = subst (λ (l : Lwk). 1 ≤ l.node.sleepers.spare) (sym same) sleeper; call = call })
