@@ -1,8 +1,9 @@
 -- The processes of the lightweight kernel's events, what of these is built, and the memory that they need.
 use Rattle.file_model.specs.Files.{Files}
 use Rattle.hybrid_laws.specs.LinuxHolds.{is_of_linux}
-use Rattle.hybrid_model.specs.Events.{process_of_event}
+use Rattle.hybrid_model.specs.Events.{of_thread, process_of_event}
 use Rattle.hybrid_model.specs.declared.events.Event.{Event}
+use Rattle.hybrid_model.specs.declared.events.Event.TheVariants.{Trap}
 use Rattle.ikc_ring.specs.declared.Msg.{Msg}
 use Rattle.ikc_ring.specs.declared.Msg.TheVariants.{Ack}
 use Rattle.isa_model.specs.Registers.{reg}
@@ -23,14 +24,20 @@ abbrev pub IsBuilt : Option Msg → Type 0
 IsBuilt (Some Ack) = ⊥
 IsBuilt _ = Unit {0}
 
--- a call can begin without memory
-pub record HasCallRoom {T : Type 0} (s : Side T) : Type 0 where
-  pub book : 1 ≤ s.channel.book.spare
-  pub callers : 1 ≤ s.task.callers.spare
+-- a process's row has room for a call
+abbrev pub HasCallRoom : {T : Type 0} → Side T → Type 0
+HasCallRoom s = (1 ≤ s.channel.book.spare) × (1 ≤ s.task.callers.spare)
 
--- the trap of the thread takes no memory
-abbrev pub HasTrapRoom : {T F : Type 0} → Parts T F → ℕ → Type 0
-HasTrapRoom {T} x t = (p : ℕ) (s : Side T) → at x.sides.map p ≡ Some s → ((files : Files) → p ≡ (thread_of (node_of x.lwk.node files) t).process) → HasCallRoom s
+-- a thread of the process may begin a call or fall asleep
+pub record HasTrapRoom {T F : Type 0} (x : Parts T F) (p : ℕ) : Type 0 where
+  pub sleeper : 1 ≤ x.lwk.node.sleepers.spare
+  pub call : (s : Side T) → at x.sides.map p ≡ Some s → HasCallRoom s
+
+module _ {T F : Type 0} (files : F → Files) where
+  -- the event takes no memory
+  abbrev pub HasKernelRoom : Event → Parts T F → Type 0
+  HasKernelRoom (Trap t) x = HasTrapRoom x (of_thread (node_of x.lwk.node (files x.files)) t.0)
+  HasKernelRoom _ x = Unit {0}
 
 -- the trap of the thread is built, but for the calls by which it may fall asleep
 abbrev pub is_built_here : Node → ℕ → Bool

@@ -11,6 +11,7 @@ mod boot_script;
 mod booting;
 mod kernel_events;
 mod kernel_may;
+mod kernel_room;
 mod linux_may;
 mod linux_room;
 mod messages;

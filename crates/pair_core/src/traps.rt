@@ -3,7 +3,7 @@ ghost use Rattle.file_model.specs.Files.{Files};
 ghost use Rattle.hybrid_model.specs.Events.{after};
 ghost use Rattle.hybrid_model.specs.declared.events.Event.TheVariants.{Reap, Trap};
 ghost use Rattle.lwk_node.specs.Shown.{node_of};
-ghost use Rattle.pair_core.specs.KernelRoom.{HasTrapRoom, is_built_here};
+ghost use Rattle.pair_core.specs.KernelRoom.{HasKernelRoom, is_built_here};
 ghost use Rattle.pair_core.specs.Kept.{Kept};
 ghost use Rattle.pair_core.specs.Ready.{Ready};
 ghost use Rattle.pair_core.specs.Shown.{pair_of};
@@ -23,7 +23,7 @@ impl<T: PageTable + Drop, F: FileStore> Parts<T, F> {
         requires ready { Ready (pair_of T.rows F.files self.old) (Trap t) }
         requires kept { Kept self.old }
         requires built { (files : Files) → is_built_here (node_of self.old.lwk.node files) t.0 ≡ true }
-        requires room { HasTrapRoom self.old t.0 }
+        requires room { HasKernelRoom F.files (Trap t) self.old }
         ensures after { pair_of T.rows F.files self.new ≡ after (pair_of T.rows F.files self.old) (Trap t) }
         ensures kept { Kept self.new }
     {

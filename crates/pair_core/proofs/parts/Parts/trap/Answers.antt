@@ -3,12 +3,14 @@ use Rattle.hybrid_model.specs.Pairs.{side_of}
 use Rattle.hybrid_model.specs.Sides.{Side as SideOf}
 use Rattle.hybrid_model.specs.declared.events.Event.TheVariants.{Trap}
 use Rattle.lwk_node.specs.Shown.{node_of}
+use Rattle.mck_word.specs.Maps.{at}
 use Rattle.pair_core.proofs.Begun.{begins-any, begun-posts, no-futex}
 use Rattle.pair_core.proofs.Found.{after-is, has-row}
 use Rattle.pair_core.proofs.KernelFacts.{kept-after, process-is, side-is, sound-table, wired}
 use Rattle.pair_core.proofs.Posting.{own-ring, place-of}
 use Rattle.pair_core.proofs.parts.Parts.trap.Goals as goal
 use Rattle.pair_core.specs.Shown.{here_in, pair_of, rest_of}
+use Rattle.std.specs.Prelude.{ℕ}
 use Rattle.std.proofs.Common.{ap, arith, refl, sym, ◌∙◌}
 
 pub row_mut-side-requires : goal.row_mut-side-requires
@@ -30,7 +32,7 @@ trap-requires g c =
     let process = process-is g.T.PageTable.rows g.F.FileStore.files x t p c.process_of_thread-p.ensures in
     let h = here_in g.T.PageTable.rows g.F.FileStore.files x s in
     let rings = wired g.T.PageTable.rows g.F.FileStore.files x p s there sound in
-    let room = c.requires.room p s there c.process_of_thread-p.ensures in
+    let room = c.requires.room.call s (ap (λ (q : ℕ). at x.sides.map q) process ∙ there) in
     let next = (c.few.ensures.numbers pair sound.coherent sound.small).requests p in
     let own = ap (λ (side : SideOf). side.book.next) (side-is g.T.PageTable.rows g.F.FileStore.files x p s there) in
     record {
@@ -39,8 +41,8 @@ trap-requires g c =
       place = λ files e. place-of g.T.PageTable.rows g.F.FileStore.files x p s there (Trap c.args.t) t process
           (begun-posts p t h refl (begins-any x.lwk.node t files (g.F.FileStore.files x.files) e) (own-ring x.lwk s.channel.to_linux t rings))
           (c.no_ring_is_full.ensures.room pair (Trap c.args.t) sound.coherent c.requires.ready.may) c.requires.kept;
-      room = room.book;
-      callers = room.callers;
+      room = room.0;
+      callers = room.1;
       more = omega (arith, next, own);
       rest = λ files e. absurd (no-futex _ (both _ _ (c.requires.built files)).1 e);
       built = λ files. (both _ _ (c.requires.built files)).0;
