@@ -126,6 +126,15 @@ class Guest:
 
 # ---- terms
 
+class Term(str):
+    """A term beside what it says in plain data."""
+
+    def __new__(cls, term, plain):
+        made = super().__new__(cls, term)
+        made.plain = plain
+        return made
+
+
 def numbers(values):
     return "(" + "".join(f"{v} ∷ " for v in values) + "[])"
 
@@ -170,20 +179,22 @@ def job(frames, cores=1, guests=1, **changes):
     arguments = "(" + "((97 ∷ []) ∷ []) ∷ " * guests + "[])"
     term = f"small_job {frames} {cores} {arguments}"
     fields = "; ".join(f"{name} = {value}" for name, value in changes.items())
-    return f"record ({term}) {{ {fields} }}" if fields else term
+    plain = dict(frames=frames, cores=cores, guests=guests, **{name: getattr(value, "plain", value) for name, value in changes.items()})
+    return Term(f"record ({term}) {{ {fields} }}" if fields else term, plain)
 
 
 def signals(*lines):
-    return "".join("record { line = %d; guest = %d; sig = %d; after = %d } ∷ " % line for line in lines) + "[]"
+    return Term("".join("record { line = %d; guest = %d; sig = %d; after = %d } ∷ " % line for line in lines) + "[]", lines)
 
 
 def files(**contents):
     rows = (f"record {{ line = 0; path = {text('/' + name)}; name = []; bytes = {text(content)} }} ∷ " for name, content in contents.items())
-    return "".join(rows) + "[]"
+    return Term("".join(rows) + "[]", contents)
 
 
 def inputs(*lines):
-    return "".join(f"record {{ line = 0; guest = {guest}; name = []; bytes = {text(content)} }} ∷ " for guest, content in lines) + "[]"
+    rows = (f"record {{ line = 0; guest = {guest}; name = []; bytes = {text(content)} }} ∷ " for guest, content in lines)
+    return Term("".join(rows) + "[]", lines)
 
 
 def word_term(word):
@@ -202,17 +213,40 @@ def lines_of(trace):
     return listed(line(*(int(w) if w.isdigit() else w for w in row.split())) for row in trace.strip().split("\n"))
 
 
+def line_text(*words):
+    return (" ".join(str(word) for word in words) + "\n").encode()
+
+
 def report(end, guests, outputs, paths=(), unsent=(), instructions=0, requests=0, faults=0, rounds=0, free=0):
-    parts = [line("mcreport", 1), line("end", end)]
+    parts, plain = [], []
+
+    def add(*words):
+        parts.append(line(*words))
+        plain.append(line_text(*words))
+
+    def block(content):
+        parts.append(f"Block ({text(content)})")
+        plain.append((content.encode() if isinstance(content, str) else content) + b"\n")
+
+    add("mcreport", 1)
+    add("end", end)
     for number, state in guests:
-        parts.append(line("guest", number, *(int(w) if w.isdigit() else w for w in state.split())))
+        add("guest", number, *(int(w) if w.isdigit() else w for w in state.split()))
     for number, output in outputs:
-        parts += [line("output", number, len(output)), f"Block ({text(output)})"]
+        add("output", number, len(output))
+        block(output)
     for path, content in paths:
-        parts += [line("dir", path)] if content is None else [line("file", path, len(content)), f"Block ({text(content)})"]
-    parts += [line("unsent", number) for number in unsent]
+        if content is None:
+            add("dir", path)
+        else:
+            add("file", path, len(content))
+            block(content)
+    for number in unsent:
+        add("unsent", number)
     counts = dict(instructions=instructions, requests=requests, faults=faults, rounds=rounds, free=free)
-    return listed(parts + [line("count", name, n) for name, n in counts.items()])
+    for name, n in counts.items():
+        add("count", name, n)
+    return Term(listed(parts), b"".join(plain))
 
 
 PID_FIRST = "Intake Answer Reap Fetch Assign Miss Pin Copy Unpin Act Park Unpark Finish AckClear".split()

@@ -9,6 +9,8 @@ STACK = TOP - 0x100
 ENDED = [(1, "exit 0")]
 
 ROWS = {}
+# of the rows that are walks in order 0: the guests' words and data, the job, the report and the trace, in plain data
+RUNS = {}
 
 
 class Row:
@@ -59,6 +61,9 @@ def walked(name, title, guests, job_term, expected, trace=None, steps=400, words
     if sound:
         row.sound(chunk, chunks)
     ROWS[name] = row
+    if words is None:
+        plain = [g.words_and_data() if isinstance(g, Guest) else g for g in guests]
+        RUNS[name] = plain, job_term.plain, expected.plain, trace
 
 
 def ended(name, title, guests, job_term, life, steps=400, words=None, chunk=None, chunks=1):
