@@ -1,1 +1,4 @@
-pub mod MayLwk
+pub mod SameKeys
+pub mod Numbered
+pub mod BuiltEvents
+pub mod Sound
