@@ -17,6 +17,7 @@ mod runs;
 mod script;
 mod task;
 mod traps;
+mod waits;
 
 pub use answers::{answer_to, may_answer};
 pub use kernel::{Last, Lwk};

@@ -18,8 +18,7 @@ use Rattle.mck_word.specs.declared.Regs.{Regs}
 use Rattle.pair_core.proofs.KernelFacts.{post-longer}
 use Rattle.pair_core.proofs.Posting.{Posts}
 use Rattle.std.proofs.Common.{ap, arith, refl, sym, ◌∙◌}
-use Rattle.std.proofs.lemmas.Bool.Decides.{nat_tests}
-use Rattle.std.specs.Prelude.{List, None, Option, Some, length, not, true, ℕ, ◌+◌, ◌<◌, ◌==◌, ◌≡◌}
+use Rattle.std.specs.Prelude.{List, None, Option, Some, length, true, ℕ, ◌+◌, ◌<◌, ◌≡◌}
 
 module _ (t free : ℕ) (v : View) where
   abbrev regs : Regs
@@ -61,7 +60,3 @@ begun-posts p t h none e below =
 pub begins-any : (n : Node) (t : ℕ) (files other : Files) → begins_call (node_of n files) t ≡ true → begins_call (node_of n other) t ≡ true
 unfolding node_of
 begins-any n t files other e = e
-
--- a call that is built here is no futex call
-pub no-futex : (n : ℕ) → not (n == 98) ≡ true → n ≡ 98 → ⊥
-no-futex n e f = grind (arith, nat_tests, e, f)

@@ -6,14 +6,12 @@ use Rattle.hybrid_model.specs.declared.events.Event.{Event}
 use Rattle.hybrid_model.specs.declared.events.Event.TheVariants.{BeginVm, Trap}
 use Rattle.ikc_ring.specs.declared.Msg.{Msg}
 use Rattle.ikc_ring.specs.declared.Msg.TheVariants.{Ack}
-use Rattle.isa_model.specs.Registers.{reg}
-use Rattle.kernel_model.specs.Nodes.{Node, thread_of}
+use Rattle.kernel_model.specs.Nodes.{Node}
 use Rattle.lwk_node.specs.Shown.{node_of}
-use Rattle.lwk_side.specs.Built.{is_built_trap}
 use Rattle.mck_word.specs.Maps.{at}
 use Rattle.pair_core.specs.declared.parts.Parts.{Parts}
 use Rattle.pair_core.specs.declared.parts.Side.{Side}
-use Rattle.std.specs.Prelude.{Bool, None, Option, Some, cond, not, ℕ, ◌&&◌, ◌+◌, ◌<◌, ◌==◌, ◌^◌, ◌≡◌, ◌≤◌}
+use Rattle.std.specs.Prelude.{None, Option, Some, cond, ℕ, ◌+◌, ◌<◌, ◌^◌, ◌≡◌, ◌≤◌}
 
 -- the process of an event of the lightweight kernel
 abbrev pub kernel_process : Node → Event → Option ℕ
@@ -43,7 +41,3 @@ module _ {T F : Type 0} (files : F → Files) where
   HasKernelRoom (Trap t) x = HasTrapRoom x (of_thread (node_of x.lwk.node (files x.files)) t.0)
   HasKernelRoom (BeginVm t) x = HasRoundRoom x (of_thread (node_of x.lwk.node (files x.files)) t.0)
   HasKernelRoom _ x = Unit {0}
-
--- the trap of the thread is built, but for the calls by which it may fall asleep
-abbrev pub is_built_here : Node → ℕ → Bool
-is_built_here node t = is_built_trap node t && not (reg (thread_of node t).regs 17 == 98)

@@ -23,6 +23,7 @@ mod pins;
 mod requests;
 mod rounds;
 mod traps;
+mod waits;
 
 pub use boot_error::BootError;
 pub use parts::{Parts, Side};

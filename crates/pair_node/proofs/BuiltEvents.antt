@@ -1,7 +1,6 @@
 -- What is built of the events: it makes no process, and a message that is taken is no acknowledgement.
 use Rattle.file_model.specs.Files.{Files}
 use Rattle.hybrid_laws.specs.CallsLast.{born-is}
-use Rattle.hybrid_laws.specs.Tests.{both}
 use Rattle.hybrid_model.specs.Events.{after, after_here, may, process_of_event}
 use Rattle.hybrid_model.specs.Globals.{Coherent}
 use Rattle.hybrid_model.specs.Pairs.{Pair, here}
@@ -20,7 +19,7 @@ use Rattle.mck_word.specs.Maps.{Map, at, keys}
 use Rattle.mck_word.specs.declared.Pid.{Pid}
 use Rattle.mck_word.specs.declared.Tid.{Tid}
 use Rattle.pair_core.proofs.KernelFacts.{side-is}
-use Rattle.pair_core.specs.KernelRoom.{IsBuilt, is_built_here}
+use Rattle.pair_core.specs.KernelRoom.{IsBuilt}
 use Rattle.pair_core.specs.Shown.{pair_of}
 use Rattle.pair_core.specs.declared.parts.Parts.{Parts}
 use Rattle.pair_core.specs.declared.parts.Side.{Side}
@@ -41,10 +40,10 @@ not-clone n e = go (n == 220) refl
         let h : false ≡ true = ap is_built_call (sym g) ∙ e in
         grind (arith, h))
 
-no-clone : (node : Node) (t : ℕ) → is_built_here node t ≡ true → stop_in (thread_of node t).does ≡ Some Ecall → (reg (thread_of node t).regs 17 == 220) ≡ false
+no-clone : (node : Node) (t : ℕ) → is_built_trap node t ≡ true → stop_in (thread_of node t).does ≡ Some Ecall → (reg (thread_of node t).regs 17 == 220) ≡ false
 no-clone node t e stop =
     let number = reg (thread_of node t).regs 17 in
-    not-clone number (sym (ap (is_built_stop number) stop) ∙ (both (is_built_trap node t) _ e).0)
+    not-clone number (sym (ap (is_built_stop number) stop) ∙ e)
 
 pub none-begins : (pair : Pair) (e : Event) → built pair e ≡ true → (p : ℕ) → (after_here e p (here pair p)).born ≡ None
 none-begins pair e b p = go (after_here e p (here pair p)).born refl
@@ -71,6 +70,6 @@ module _ {T F : Type 0} (rows : T → Map Row) (files : F → Files) (x : Parts 
   pub built-message : (p : Pid) → built (pair_of rows files x) (Intake p) ≡ true → (s : Side T) → at x.sides.map p.0 ≡ Some s → IsBuilt (head_of s.channel.to_lwk.items)
   built-message p e s there = no-ack (head_of s.channel.to_lwk.items) (sym (ap (λ (side : SideOf). is_built_message (head_of side.to_lwk)) (side-is rows files x p.0 s there)) ∙ e)
 
-  pub built-trap : (t : Tid) → built (pair_of rows files x) (Trap t) ≡ true → (other : Files) → is_built_here (node_of x.lwk.node other) t.0 ≡ true
+  pub built-trap : (t : Tid) → built (pair_of rows files x) (Trap t) ≡ true → (other : Files) → is_built_trap (node_of x.lwk.node other) t.0 ≡ true
   unfolding pair_of node_of
   built-trap t e other = e

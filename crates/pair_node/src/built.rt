@@ -36,7 +36,6 @@ pub fn is_built<T: PageTable + Drop, F: FileStore>(parts: &Parts<T, F>, event: E
 {
     match event {
         Event::Deliver(_) => false,
-        Event::Wait(_) => false,
         Event::Intake(p) => is_built_intake(parts, p),
         Event::Trap(t) => parts.is_built_trap(t),
         _ => true,

@@ -33,6 +33,7 @@ pub fn happen<T: PageTable + Drop, F: FileStore>(
         Event::Interrupt(t) => parts.interrupt(t),
         Event::Reap(p) => parts.reap(alloc, p),
         Event::Script(k) => parts.script(k),
+        Event::Wait(t) => parts.wait(t),
         Event::Fetch(p, r) => parts.fetch(alloc, p, r),
         Event::Assign(p, w) => parts.assign(p, w),
         Event::Miss(p, w) => parts.miss(p, w),
@@ -44,8 +45,7 @@ pub fn happen<T: PageTable + Drop, F: FileStore>(
         Event::Unpark(p, q) => parts.unpark(p, q),
         Event::Finish(p, w) => parts.finish(p, w),
         Event::AckClear(p) => parts.ack_clear(p),
-        // These aren't built, so there is no room for them.
+        // It isn't built, so there is no room for it.
         Event::Deliver(_) => {}
-        Event::Wait(_) => {}
     }
 }

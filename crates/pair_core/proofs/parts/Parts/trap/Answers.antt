@@ -1,13 +1,13 @@
-use Rattle.hybrid_laws.specs.Tests.{both, not-true}
 use Rattle.hybrid_model.specs.Pairs.{side_of}
 use Rattle.hybrid_model.specs.Sides.{Side as SideOf}
 use Rattle.hybrid_model.specs.declared.events.Event.TheVariants.{Trap}
 use Rattle.lwk_node.specs.Shown.{node_of}
 use Rattle.mck_word.specs.Maps.{at}
-use Rattle.pair_core.proofs.Begun.{begins-any, begun-posts, no-futex}
-use Rattle.pair_core.proofs.Found.{after-is, has-row}
+use Rattle.pair_core.proofs.Begun.{begins-any, begun-posts}
+use Rattle.pair_core.proofs.Found.{after-is, has-row, may-here}
 use Rattle.pair_core.proofs.KernelFacts.{kept-after, process-is, side-is, sound-table, wired}
 use Rattle.pair_core.proofs.Posting.{own-ring, place-of}
+use Rattle.pair_core.proofs.Sleepers.{may-rest}
 use Rattle.pair_core.proofs.parts.Parts.trap.Goals as goal
 use Rattle.pair_core.specs.Shown.{here_in, pair_of, rest_of}
 use Rattle.std.specs.Prelude.{ℕ}
@@ -44,8 +44,9 @@ trap-requires g c =
       room = room.0;
       callers = room.1;
       more = omega (arith, next, own);
-      rest = λ files e. absurd (no-futex _ (both _ _ (c.requires.built files)).1 e);
-      built = λ files. (both _ _ (c.requires.built files)).0;
+      rest = λ files e. may-rest x.lwk.node (g.F.FileStore.files x.files) t sound.coherent.sleeping sound.coherent.places
+          (may-here g.T.PageTable.rows g.F.FileStore.files x p s (Trap c.args.t) there process c.requires.ready) c.requires.room.sleeper;
+      built = c.requires.built;
     }
 
 pub returns-clause-after : goal.returns-clause-after
