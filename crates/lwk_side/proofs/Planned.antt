@@ -7,16 +7,15 @@ use Rattle.kernel_model.specs.Signals.{View, on_node, raised, signal_of_stop}
 use Rattle.kernel_model.specs.Traps.{Done, cloned, trap, trap_of_stop}
 use Rattle.isa_model.specs.declared.stops.Stop.{Stop}
 use Rattle.isa_model.specs.declared.stops.Stop.TheVariants.{Break, Ecall, Fault, Illegal, Misaligned, On}
-use Rattle.lwk_side.proofs.Dispatched.{other}
-use Rattle.lwk_side.specs.Built.{is_built_call, is_built_stop}
+use Rattle.lwk_side.specs.Built.{is_built_stop}
 use Rattle.std.proofs.Common.{ap, arith, refl, sym, ◌≡◌}
-use Rattle.std.specs.Prelude.{List, Option, Some, false, get_or, length, true, ℕ, ◌≤◌}
+use Rattle.std.specs.Prelude.{List, Option, Some, false, get_or, length, true, ℕ, ◌==◌, ◌≤◌}
 
--- a local call that is built is done
-pub local-done : (t free number : ℕ) (arguments : List ℕ) (v : View) → is_built_call number ≡ true
+-- a local call that is no clone is done
+pub local-done : (t free number : ℕ) (arguments : List ℕ) (v : View) → (number == 220) ≡ false
     → cloned (local_call t free number arguments v) ≡ Done (one_of_calls t number (λ k. get_or arguments k 0) v)
 unfolding local_call
-local-done t free number arguments v built = rw (other number 220 refl built) refl
+local-done t free number arguments v other = rw other refl
 
 -- a stop that is built and no call raises its signal
 pub raises-signal : (t free number : ℕ) (v : View) (stop : Stop) → is_built_stop number (Some stop) ≡ true → (stop ≡ Ecall → false ≡ true)

@@ -15,12 +15,13 @@ ghost use Rattle.kernel_model.specs.Signals.{on_node, raised, signal_of_stop};
 ghost use Rattle.kernel_model.specs.Traps.{Begins, arguments_of as arguments_in, past_ecall, planned, trap_of_stop};
 ghost use Rattle.lwk_node.specs.Shown.{node_of};
 ghost use Rattle.lwk_side.specs.Built.{begins_at, begins_call, is_built_call, is_built_stop, is_built_trap, names_delegated};
+ghost use Rattle.lwk_side.specs.Cloning.{MayClone, calls_fork, forks_at, names_fork};
 ghost use Rattle.lwk_side.specs.Resting.{MayRest};
 ghost use Rattle.lwk_side.specs.Shown.{Rest, here_of};
 ghost use Rattle.lwk_side.specs.Sound.{IsSound, KeepsFrames, KeepsRings};
 ghost use Rattle.lwk_side.specs.Wired.{HasPlace, Wired};
 ghost use Rattle.mck_word.specs.Words.{refused};
-ghost use Rattle.std.specs.Prelude.{◌≡◌, ◌<◌, ◌-◌, ◌≤◌, ◌^◌, List, Some, get_or, true, ℕ};
+ghost use Rattle.std.specs.Prelude.{◌≡◌, ◌<◌, ◌-◌, ◌≤◌, ◌^◌, List, Some, false, get_or, true, ℕ};
 
 use crate::kernel::Lwk;
 use crate::local_calls::{arguments_of, call_number, local_call, raises, refuses_unknown};
@@ -38,7 +39,7 @@ fn is_built_call(number: u64) -> bool
 {
     !matches!(
         number,
-        129 | 131 | 134 | 135 | 136 | 139 | 214 | 215 | 220 | 222 | 226
+        129 | 131 | 134 | 135 | 136 | 139 | 214 | 215 | 222 | 226
     )
 }
 
@@ -91,7 +92,13 @@ impl Lwk {
     }
 
     /// A local call of the thread is made, behind its ecall.
-    fn calls_locally<T: PageTable>(&mut self, task: &Task<T>, t: Tid, number: u64, args: &[u64; 6])
+    pub(crate) fn calls_locally<T: PageTable>(
+        &mut self,
+        task: &Task<T>,
+        t: Tid,
+        number: u64,
+        args: &[u64; 6],
+    )
         requires sound { IsSound self.old (T.rows task.now.space.table) }
         requires rest { number ≡ 98 → MayRest self.old.node t.0 }
         requires built { is_built_call number ≡ true }
@@ -146,6 +153,8 @@ impl Lwk {
         requires callers { 1 ≤ task.old.callers.spare }
         requires more { channel.old.book.requests.next < 2 ^ 64 - 1 }
         requires rest { reg regs.now 17 ≡ 98 → MayRest self.old.node t.0 }
+        requires clone { reg regs.now 17 ≡ 220 → MayClone self.old.node t.0 }
+        requires no_fork { names_fork regs.now ≡ false }
         requires built { is_built_call (reg regs.now 17) ≡ true }
         ensures after { (r : Rest) (p free : ℕ) → here_of self.new (T.rows task.new.space.table) task.new channel.new r
             ≡ (let h = here_of self.old (T.rows task.old.space.table) task.old channel.old r in
@@ -158,7 +167,7 @@ impl Lwk {
         let args = arguments_of(regs);
         match plan(number, &args) {
             Plan::Unknown => self.refuses_call(task, t),
-            Plan::Local => self.calls_locally(task, t, number, &args),
+            Plan::Local => self.makes_call(task, t, number, &args),
             Plan::Memory => {}
             Plan::Delegated(_) => self.begins(task, channel, t, number, &args),
         }
@@ -179,6 +188,8 @@ impl Lwk {
         requires callers { 1 ≤ task.old.callers.spare }
         requires more { channel.old.book.requests.next < 2 ^ 64 - 1 }
         requires rest { (files : Files) → reg (thread_of (node_of self.old.node files) t.0).regs 17 ≡ 98 → MayRest self.old.node t.0 }
+        requires clone { (files : Files) → reg (thread_of (node_of self.old.node files) t.0).regs 17 ≡ 220 → MayClone self.old.node t.0 }
+        requires no_fork { (files : Files) → forks_at (thread_of (node_of self.old.node files) t.0).regs (Some stop) ≡ false }
         requires built { (files : Files) → is_built_stop (reg (thread_of (node_of self.old.node files) t.0).regs 17) (Some stop) ≡ true }
         ensures after { (r : Rest) (p free : ℕ) → here_of self.new (T.rows task.new.space.table) task.new channel.new r
             ≡ (let h = here_of self.old (T.rows task.old.space.table) task.old channel.old r in
@@ -196,7 +207,7 @@ impl Lwk {
         }
     }
 
-    /// The trap of a stopped thread of the process, whose kind is one that is built.
+    /// The trap of a stopped thread of the process that is no fork, and whose kind is one that is built.
     pub fn trap<T: PageTable>(&mut self, task: &mut Task<T>, channel: &mut Channel, p: Pid, t: Tid)
         requires sound { IsSound self.old (T.rows task.old.space.table) }
         requires wired { Wired self.old channel.old.to_linux }
@@ -205,6 +216,8 @@ impl Lwk {
         requires callers { 1 ≤ task.old.callers.spare }
         requires more { channel.old.book.requests.next < 2 ^ 64 - 1 }
         requires rest { (files : Files) → reg (thread_of (node_of self.old.node files) t.0).regs 17 ≡ 98 → MayRest self.old.node t.0 }
+        requires clone { (files : Files) → reg (thread_of (node_of self.old.node files) t.0).regs 17 ≡ 220 → MayClone self.old.node t.0 }
+        requires no_fork { (files : Files) → calls_fork (node_of self.old.node files) t.0 ≡ false }
         requires built { (files : Files) → is_built_trap (node_of self.old.node files) t.0 ≡ true }
         ensures event { (r : Rest) → here_of self.new (T.rows task.new.space.table) task.new channel.new r
             ≡ after_trap p.0 t.0 (here_of self.old (T.rows task.old.space.table) task.old channel.old r) }

@@ -16,3 +16,4 @@ pub mod Posting
 pub mod Begun
 pub mod MayKernel
 pub mod Sleepers
+pub mod Clones

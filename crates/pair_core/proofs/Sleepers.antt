@@ -1,7 +1,7 @@
 -- A stopped thread may fall asleep: it sleeps nowhere, and those of its process that sleep at an address have places other than its own.
 use Rattle.file_model.specs.Files.{Files}
 use Rattle.guest_laws.specs.Counting.{no-more-than}
-use Rattle.hybrid_laws.specs.Goes.{SleepOnce, SleeperIs, SleepersAre, IsAwake, each-passes, tally-filter}
+use Rattle.hybrid_laws.specs.Goes.{SleeperIs, each-passes, tally-filter}
 use Rattle.hybrid_laws.specs.LocalKeeps.{Each-filter}
 use Rattle.hybrid_laws.specs.Reading.{Each-both, Each-map}
 use Rattle.hybrid_laws.specs.SoundNode.{is-awake, sleep-once, sleepers-are}
@@ -21,7 +21,7 @@ use Rattle.std.proofs.Common.{ap, arith, inl, inr, refl, subst, sym, ◌∙◌}
 use Rattle.std.proofs.lemmas.Bool.Decides.{nat_tests}
 use Rattle.std.proofs.lemmas.List.{length-map}
 use Rattle.std.specs.List.{list_any}
-use Rattle.std.specs.Prelude.{Bool, List, Some, [], false, filter, length, map, true, ℕ, ◌&&◌, ◌+◌, ◌<◌, ◌==◌, ◌∷◌, ◌≡◌, ◌≤◌, ◌⊎◌, ◌||◌}
+use Rattle.std.specs.Prelude.{Bool, List, Some, [], false, filter, length, map, true, ℕ, ◌<◌, ◌==◌, ◌∷◌, ◌≡◌, ◌≤◌, ◌⊎◌}
 
 none-of : (t : ℕ) (ss : List Sleeper) → Each (λ (s : Sleeper). (s.thread == t) ≡ false) ss → list_any (λ s. s.thread == t) ss ≡ false
 none-of t [] h = refl

@@ -26,9 +26,10 @@ IsBuilt _ = Unit {0}
 abbrev pub HasCallRoom : {T : Type 0} → Side T → Type 0
 HasCallRoom s = (1 ≤ s.channel.book.spare) × (1 ≤ s.task.callers.spare)
 
--- a thread of the process may begin a call or fall asleep
+-- a thread of the process may begin a call, fall asleep or begin a thread
 pub record HasTrapRoom {T F : Type 0} (x : Parts T F) (p : ℕ) : Type 0 where
   pub sleeper : 1 ≤ x.lwk.node.sleepers.spare
+  pub thread : 1 ≤ x.lwk.node.threads.spare
   pub call : (s : Side T) → at x.sides.map p ≡ Some s → HasCallRoom s
 
 -- a round more of the process can be counted

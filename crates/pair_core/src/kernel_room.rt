@@ -63,6 +63,16 @@ impl<T: PageTable + Drop, F: FileStore> Parts<T, F> {
         self.lwk.node.reserve_sleeper()
     }
 
+    /// Makes room for a thread that begins, beside the room for sleepers that there is.
+    fn make_thread_room(&mut self) -> Result<(), NoMemory>
+        ensures same { pair_of T.rows F.files self.new ≡ pair_of T.rows F.files self.old }
+        ensures kept { Kept self.old → Kept self.new }
+        ensures sleepers { self.old.lwk.node.sleepers.spare ≤ self.new.lwk.node.sleepers.spare }
+        ensures room { OnOk result (1 ≤ self.new.lwk.node.threads.spare) }
+    {
+        self.lwk.node.reserve_thread()
+    }
+
     /// Makes the room that the trap of a thread needs.
     fn make_trap_room(&mut self, t: Tid) -> Result<(), NoMemory>
         ensures same { pair_of T.rows F.files self.new ≡ pair_of T.rows F.files self.old }
@@ -70,6 +80,7 @@ impl<T: PageTable + Drop, F: FileStore> Parts<T, F> {
         ensures room { OnOk result (HasKernelRoom F.files (Trap t) self.new) }
     {
         self.make_sleeper_room()?;
+        self.make_thread_room()?;
         let p = self.lwk.node.process_of_thread(t);
         self.make_call_room(p)
     }

@@ -1,15 +1,12 @@
-use Rattle.hybrid_model.specs.Lwk.{trapped, view_here, with_view}
-use Rattle.isa_model.specs.Registers.{reg}
-use Rattle.kernel_model.specs.Calls.{one_of_calls}
+use Rattle.hybrid_model.specs.Lwk.{trapped, view_here}
+use Rattle.kernel_model.specs.Calls.{local_call}
 use Rattle.kernel_model.specs.Plans as plans
 use Rattle.kernel_model.specs.Progress.{starting}
-use Rattle.kernel_model.specs.Traps.{Begins, Trapped, arguments_of, past_ecall, planned}
-use Rattle.lwk_side.proofs.Planned.{local-done}
+use Rattle.kernel_model.specs.Traps.{Begins, cloned, past_ecall, planned}
 use Rattle.lwk_side.proofs.kernel.Lwk.call.Goals as goal
 use Rattle.lwk_side.specs.Built.{is_delegated}
 use Rattle.lwk_side.specs.Shown.{here_of}
 use Rattle.std.proofs.Common.{ap, sym, ◌∙◌}
-use Rattle.std.specs.Prelude.{get_or}
 
 pub returns-in-Unknown-clause-after : goal.returns-in-Unknown-clause-after
 returns-in-Unknown-clause-after g c = λ r p free.
@@ -25,9 +22,8 @@ returns-in-Local-clause-after g c = λ r p free.
     let h = here_of c.args.self.now (g.T.PageTable.rows c.args.task.now.space.table) c.args.task.now c.args.channel.now r in
     let t = c.args.t.0 in
     let regs = c.args.regs.now in
-    c.calls_locally.ensures.after c.args.channel.now r
-    ∙ (λ i. with_view (one_of_calls t (c.call_number-number.ensures i) (λ k. get_or (c.arguments_of-args.ensures i) k 0) (past_ecall t (view_here h))) h)
-    ∙ ap (λ (x : Trapped). trapped p t x h) (sym (local-done t free (reg regs 17) (arguments_of regs) (past_ecall t (view_here h)) c.requires.built))
+    c.makes_call.ensures.after c.args.channel.now r p free
+    ∙ (λ i. trapped p t (cloned (local_call t free (c.call_number-number.ensures i) (c.arguments_of-args.ensures i) (past_ecall t (view_here h)))) h)
     ∙ ap (λ (way : plans.Plan). trapped p t (planned t free regs (past_ecall t (view_here h)) way) h)
     (c.in-Local.ensures.is ∙ (λ i. plans.plan (c.call_number-number.ensures i) (c.arguments_of-args.ensures i)))
 

@@ -9,6 +9,7 @@ use Rattle.lwk_node.specs.Shown.{node_of}
 use Rattle.lwk_side.proofs.Planned.{raises-signal, signal-there}
 use Rattle.lwk_side.proofs.kernel.Lwk.trap_of_stop.Goals as goal
 use Rattle.lwk_side.specs.Built.{begins_at, is_built_call, is_built_stop, names_delegated}
+use Rattle.lwk_side.specs.Cloning.{forks_at, names_fork}
 use Rattle.lwk_side.specs.Shown.{here_of}
 use Rattle.mck_word.specs.declared.Regs.{Regs}
 use Rattle.std.proofs.Common.{ap, sym, ◌∙◌}
@@ -26,6 +27,14 @@ call-requires-clause-place g c = λ e. c.requires.place root_only
 
 pub call-requires-clause-rest : goal.call-requires-clause-rest
 call-requires-clause-rest g c = λ e. c.requires.rest root_only (ap (λ (x : Regs). reg x 17) (sym (c.regs-regs.ensures root_only)) ∙ e)
+
+pub call-requires-clause-clone : goal.call-requires-clause-clone
+call-requires-clause-clone g c = λ e. c.requires.clone root_only (ap (λ (x : Regs). reg x 17) (sym (c.regs-regs.ensures root_only)) ∙ e)
+
+pub call-requires-clause-no_fork : goal.call-requires-clause-no_fork
+call-requires-clause-no_fork g c =
+    ap names_fork (c.regs-regs.ensures root_only)
+    ∙ ap (λ (s : Stop). forks_at (thread_of (node_of c.args.self.now.node root_only) c.args.t.0).regs (Some s)) (sym c.in-Ecall.is) ∙ c.requires.no_fork root_only
 
 pub raises_signal-requires-clause-signal : goal.raises_signal-requires-clause-signal
 raises_signal-requires-clause-signal g c =

@@ -1,9 +1,8 @@
-use Rattle.hybrid_model.specs.Pairs.{side_of}
 use Rattle.hybrid_model.specs.Sides.{Side as SideOf}
 use Rattle.hybrid_model.specs.declared.events.Event.TheVariants.{Trap}
-use Rattle.lwk_node.specs.Shown.{node_of}
 use Rattle.mck_word.specs.Maps.{at}
 use Rattle.pair_core.proofs.Begun.{begins-any, begun-posts}
+use Rattle.pair_core.proofs.Clones.{may-clone}
 use Rattle.pair_core.proofs.Found.{after-is, has-row, may-here}
 use Rattle.pair_core.proofs.KernelFacts.{kept-after, process-is, side-is, sound-table, wired}
 use Rattle.pair_core.proofs.Posting.{own-ring, place-of}
@@ -11,7 +10,7 @@ use Rattle.pair_core.proofs.Sleepers.{may-rest}
 use Rattle.pair_core.proofs.parts.Parts.trap.Goals as goal
 use Rattle.pair_core.specs.Shown.{here_in, pair_of, rest_of}
 use Rattle.std.specs.Prelude.{ℕ}
-use Rattle.std.proofs.Common.{ap, arith, refl, sym, ◌∙◌}
+use Rattle.std.proofs.Common.{ap, arith, refl, ◌∙◌}
 
 pub row_mut-side-requires : goal.row_mut-side-requires
 row_mut-side-requires g c =
@@ -31,6 +30,7 @@ trap-requires g c =
     let pair = pair_of g.T.PageTable.rows g.F.FileStore.files x in
     let process = process-is g.T.PageTable.rows g.F.FileStore.files x t p c.process_of_thread-p.ensures in
     let h = here_in g.T.PageTable.rows g.F.FileStore.files x s in
+    let may = may-here g.T.PageTable.rows g.F.FileStore.files x p s (Trap c.args.t) there process c.requires.ready in
     let rings = wired g.T.PageTable.rows g.F.FileStore.files x p s there sound in
     let room = c.requires.room.call s (ap (λ (q : ℕ). at x.sides.map q) process ∙ there) in
     let next = (c.few.ensures.numbers pair sound.coherent sound.small).requests p in
@@ -44,8 +44,9 @@ trap-requires g c =
       room = room.0;
       callers = room.1;
       more = omega (arith, next, own);
-      rest = λ files e. may-rest x.lwk.node (g.F.FileStore.files x.files) t sound.coherent.sleeping sound.coherent.places
-          (may-here g.T.PageTable.rows g.F.FileStore.files x p s (Trap c.args.t) there process c.requires.ready) c.requires.room.sleeper;
+      rest = λ files e. may-rest x.lwk.node (g.F.FileStore.files x.files) t sound.coherent.sleeping sound.coherent.places may c.requires.room.sleeper;
+      clone = λ files e. may-clone g.T.PageTable.rows g.F.FileStore.files x t sound may c.requires.room.thread;
+      no_fork = c.requires.no_fork;
       built = c.requires.built;
     }
 

@@ -1,0 +1,39 @@
+-- A clone by a thread behind its ecall, and what it comes to.
+use Rattle.kernel_model.specs.CloneCalls.{clone}
+use Rattle.kernel_model.specs.Calls.{local_call}
+use Rattle.kernel_model.specs.Nodes.{Node as KernelNode, Thread, has_thread}
+use Rattle.kernel_model.specs.Signals.{View}
+use Rattle.kernel_model.specs.Traps.{Done, cloned}
+use Rattle.lwk_node.specs.Room.{KeepsRoom}
+use Rattle.lwk_node.specs.Shown.{node_of}
+use Rattle.lwk_node.specs.declared.tables.Node.{Node}
+use Rattle.lwk_side.proofs.Behind.{at-itself, behind, past}
+use Rattle.lwk_side.specs.Cloning.{MayClone, is_fork}
+use Rattle.lwk_views.specs.Views.{Stepped}
+use Rattle.mck_word.specs.Maps.{at}
+use Rattle.std.proofs.Common.{ap, arith, refl, subst, sym, ◌∙◌, ◌≡◌}
+use Rattle.std.proofs.lemmas.Bool.Decides.{nat_tests}
+use Rattle.std.specs.Prelude.{List, None, Option, Some, false, get_or, is_some, option_map, true, ℕ, ◌-◌, ◌<◌, ◌==◌, ◌^◌}
+
+still-there : (o : Option Thread) → is_some (option_map past o) ≡ is_some o
+still-there None = refl
+still-there (Some x) = refl
+
+lives-behind : (node : KernelNode) (t : ℕ) → has_thread (behind t node) t ≡ has_thread node t
+lives-behind node t = ap is_some (at-itself node t) ∙ still-there (at node.threads t)
+
+pub may-clone : (before after : Node) (t : ℕ) → KeepsRoom before after → Stepped before after (behind t) → MayClone before t → MayClone after t
+may-clone before after t room step h = record {
+  room = let a = h.room in let b = room.threads in omega (arith, a, b);
+  lives = λ files. ap (λ (k : KernelNode). has_thread k t) (step files) ∙ lives-behind (node_of before files) t ∙ h.lives files;
+  below = λ files. subst (λ n. n < 2 ^ 32 - 1) (sym (ap (λ (k : KernelNode). k.next_number) (step files))) (h.below files);
+}
+
+-- a clone that is no fork is done
+pub clone-done : (t free number : ℕ) (arguments : List ℕ) (v : View) → number ≡ 220 → is_fork number (get_or arguments 0 0) ≡ false
+    → cloned (local_call t free number arguments v) ≡ Done (clone t (get_or arguments 0 0) (get_or arguments 1 0) (get_or arguments 2 0) (get_or arguments 3 0) (get_or arguments 4 0) v)
+unfolding local_call
+clone-done t free number arguments v is other =
+    let a : (number == 220) ≡ true = grind (arith, nat_tests, is) in
+    let b = rw a at other in
+    rw (a, b) refl
