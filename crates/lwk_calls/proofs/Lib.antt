@@ -3,3 +3,9 @@ pub mod Refusing
 pub mod Waking
 pub mod Told
 pub mod Begun
+pub mod Pointing
+pub mod Acting
+pub mod Delivering
+pub mod Sending
+pub mod Pending
+pub mod OnePage
