@@ -8,4 +8,3 @@ pub mod Acting
 pub mod Delivering
 pub mod Sending
 pub mod Pending
-pub mod OnePage

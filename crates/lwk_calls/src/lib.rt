@@ -31,6 +31,9 @@ pub use sends::{kill, tgkill};
 pub use waiting::{wait4, waited};
 
 #[cfg(test)]
+mod signal_tests;
+
+#[cfg(test)]
 mod tests {
     use super::*;
     use lwk_node::Node;
