@@ -6,6 +6,7 @@
 
 mod answers;
 mod begun;
+mod delivers;
 mod intake;
 mod interrupts;
 mod kernel;
