@@ -3,3 +3,8 @@ pub mod Refusing
 pub mod Waking
 pub mod Told
 pub mod Begun
+pub mod Pointing
+pub mod Acting
+pub mod Delivering
+pub mod Sending
+pub mod Pending

@@ -10,6 +10,8 @@ use lwk_node::Node;
 use mck_word::Tid;
 
 // The refusals of the calls: negated error numbers.
+pub const ESRCH: i64 = -3;
+
 pub const ECHILD: i64 = -10;
 
 pub const EAGAIN: i64 = -11;

@@ -1,10 +1,10 @@
 -- A row that is changed twice.
-use Rattle.kernel_model.specs.Nodes.{Node, Process, Thread, change_process, change_thread}
+use Rattle.kernel_model.specs.Nodes.{Node, Process, Thread, change_process, change_thread, no_thread, thread_of}
 use Rattle.mck_word.specs.MapLaws.{at-put, same_rows}
 use Rattle.mck_word.specs.Maps.{Map, at, change, change_row, put}
 use Rattle.std.proofs.Common.{ap, arith, refl, sym, ◌∙◌}
 use Rattle.std.proofs.lemmas.Bool.Decides.{nat_tests}
-use Rattle.std.specs.Prelude.{Bool, None, Option, Some, cond, false, true, ℕ, ◌==◌, ◌≡◌}
+use Rattle.std.specs.Prelude.{Bool, None, Option, Some, cond, false, true, unwrap_or, ℕ, ◌==◌, ◌≡◌}
 
 module _ {V : Type 0} where
   put_twice : (m : Map V) (k : ℕ) (v w : V) → put (put m k v) k w ≡ put m k w
@@ -32,3 +32,11 @@ thread_twice node t f g = ap (λ (m : Map Thread). record node { threads = m }) 
 
 pub process_twice : (node : Node) (p : ℕ) (f g : Process → Process) → change_process p g (change_process p f node) ≡ change_process p (λ x. g (f x)) node
 process_twice node p f g = ap (λ (m : Map Process). record node { processes = m }) (change_twice node.processes p f g)
+
+-- a thread that is changed by what the node shows of it
+pub thread_known : (node : Node) (t : ℕ) (f : Thread → Thread → Thread) → change_thread t (f (thread_of node t)) node ≡ change_thread t (λ x. f x x) node
+thread_known node t f = ap (λ (m : Map Thread). record node { threads = m }) (go (at node.threads t))
+  where
+    go : (o : Option Thread) → change_row node.threads t (f (unwrap_or o no_thread)) o ≡ change_row node.threads t (λ x. f x x) o
+    go None = refl
+    go (Some x) = refl

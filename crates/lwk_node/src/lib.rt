@@ -10,6 +10,7 @@ mod ends;
 mod forks;
 mod handlers;
 mod making;
+mod masks;
 mod may;
 mod passes;
 pub mod process_rows;

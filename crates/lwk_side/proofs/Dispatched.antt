@@ -22,10 +22,11 @@ by-number rows before after pages left t number n a word e h d =
 pub other : (number k : ℕ) → is_built_call k ≡ false → is_built_call number ≡ true → (number == k) ≡ false
 other number k not-built built = ne_eqb number k (λ e. absurd (grind (arith, sym not-built ∙ ap is_built_call (sym e) ∙ built)))
 
--- a built call with none of the numbers before is the wait for a child
-pub last-call : (t number : ℕ) (a : ℕ → ℕ) (v : View) → is_built_call number ≡ true
-    → (number == 93) ≡ false → (number == 94) ≡ false → (number == 96) ≡ false → (number == 98) ≡ false → (number == 99) ≡ false
-    → (number == 124) ≡ false → (number == 172) ≡ false → (number == 173) ≡ false → (number == 178) ≡ false
+-- a call with none of the numbers before is the wait for a child
+pub last-call : (t number : ℕ) (a : ℕ → ℕ) (v : View)
+    → (number == 93) ≡ false → (number == 94) ≡ false → (number == 96) ≡ false → (number == 98) ≡ false → (number == 99) ≡ false → (number == 124) ≡ false
+    → (number == 129) ≡ false → (number == 131) ≡ false → (number == 134) ≡ false → (number == 135) ≡ false → (number == 136) ≡ false → (number == 139) ≡ false
+    → (number == 172) ≡ false → (number == 173) ≡ false → (number == 178) ≡ false
     → one_of_calls t number a v ≡ wait4 t (int_argument (a 0)) (a 1) (a 2 % 2 ^ 32) (a 3) v
-last-call t number a v built e93 e94 e96 e98 e99 e124 e172 e173 e178 =
-    rw (e93, e94, e96, e98, e99, e124, other number 129 refl built, other number 131 refl built, other number 134 refl built, other number 135 refl built, other number 136 refl built, other number 139 refl built, e172, e173, e178) refl
+last-call t number a v e93 e94 e96 e98 e99 e124 e129 e131 e134 e135 e136 e139 e172 e173 e178 =
+    rw (e93, e94, e96, e98, e99, e124, e129, e131, e134, e135, e136, e139, e172, e173, e178) refl

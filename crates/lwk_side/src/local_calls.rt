@@ -5,7 +5,6 @@ ghost use Rattle.kernel_model.specs.Calls.{one_of_calls};
 ghost use Rattle.kernel_model.specs.LocalCalls.{answers};
 ghost use Rattle.kernel_model.specs.Signals.{on_node, raised, signal_of_stop};
 ghost use Rattle.kernel_model.specs.Traps.{arguments_of};
-ghost use Rattle.lwk_side.specs.Built.{is_built_call};
 ghost use Rattle.lwk_side.specs.Resting.{MayRest};
 ghost use Rattle.lwk_tables.specs.Rows.{FramesApart, FramesIn};
 ghost use Rattle.lwk_views.specs.Views.{Did, DidAlone};
@@ -80,7 +79,6 @@ pub fn local_call<T: PageTable>(
     requires frames { FramesIn (T.rows space.now.table) mem.old }
     requires apart { FramesApart (T.rows space.now.table) }
     requires rest { number ≡ 98 → MayRest node.old t.0 }
-    requires built { is_built_call number ≡ true }
     ensures { Did (T.rows space.now.table) node.old mem.old node.new mem.new (one_of_calls t.0 number (λ k. get_or args.now k 0)) }
 {
     match number {
@@ -90,6 +88,12 @@ pub fn local_call<T: PageTable>(
         98 => lwk_calls::futex(node, space, mem, t, args[0], args[1], args[2], args[3]),
         99 => lwk_calls::sets_robust_list(node, t, args[1]),
         124 => lwk_calls::answers_zero(node, t),
+        129 => lwk_calls::kill(node, t, int(args[0]), int(args[1])),
+        131 => lwk_calls::tgkill(node, t, int(args[0]), int(args[1]), int(args[2])),
+        134 => lwk_calls::sigaction(node, space, mem, t, int(args[0]), args[1], args[2], args[3]),
+        135 => lwk_calls::sigprocmask(node, space, mem, t, int(args[0]), args[1], args[2], args[3]),
+        136 => lwk_calls::sigpending(node, space, mem, t, args[0], args[1]),
+        139 => lwk_calls::return_from_handler(node, space, mem, t),
         172 => lwk_calls::getpid(node, t),
         173 => lwk_calls::getppid(node, t),
         178 => lwk_calls::gettid(node, t),

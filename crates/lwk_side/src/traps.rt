@@ -37,10 +37,7 @@ use page_map::PageTable;
 fn is_built_call(number: u64) -> bool
     ensures { result ≡ is_built_call number }
 {
-    !matches!(
-        number,
-        129 | 131 | 134 | 135 | 136 | 139 | 214 | 215 | 222 | 226
-    )
+    !matches!(number, 214 | 215 | 222 | 226)
 }
 
 fn is_built_stop(number: u64, stop: Stop) -> bool
@@ -101,7 +98,6 @@ impl Lwk {
     )
         requires sound { IsSound self.old (T.rows task.now.space.table) }
         requires rest { number ≡ 98 → MayRest self.old.node t.0 }
-        requires built { is_built_call number ≡ true }
         ensures after { (c : channels) (r : Rest) → here_of self.new (T.rows task.now.space.table) task.now c r
             ≡ (let h = here_of self.old (T.rows task.now.space.table) task.now c r in
             with_view (one_of_calls t.0 number (λ k. get_or args.now k 0) (past_ecall t.0 (view_here h))) h) }

@@ -11,7 +11,8 @@ use mck_word::Regs;
 /// How many bytes a frame has.
 pub const FRAME_SIZE: usize = 272;
 
-fn put_word(into: &mut [u8], word: u64)
+/// Writes a word.
+pub(crate) fn put_word(into: &mut [u8], word: u64)
     requires { length into.old ≡ 8 }
     ensures { into.new ≡ little_endian 8 word }
 {
@@ -48,7 +49,8 @@ pub fn push_frame(r: &Regs, mask: SigSet, into: &mut [u8])
     put_word(zeros, 0);
 }
 
-fn word_in(from: &[u8]) -> u64
+/// The word that the bytes hold.
+pub(crate) fn word_in(from: &[u8]) -> u64
     requires { length from.now ≡ 8 }
     ensures { result ≡ number_of from.now }
 {

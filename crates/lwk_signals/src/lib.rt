@@ -6,6 +6,7 @@
 //! order of pending signals and the signals that are ignored by default are this project's own.
 #![tactic(auto)]
 
+pub mod action_bytes;
 pub mod frames;
 pub mod handlers;
 pub mod sets;
@@ -15,11 +16,14 @@ ghost use Rattle.kernel_model.specs.SignalSets.{has as set_has, without_signal a
 ghost use Rattle.kernel_model.specs.Signals.{action_ignores, next_of_sets};
 ghost use Rattle.lwk_signals.specs.Actions.{action_at, no_actions, signals, with_action_at};
 
+pub use action_bytes::{ACTION_SIZE, SET_SIZE, action_in, put_action, put_set, set_in};
 pub use frames::{FRAME_SIZE, pop_frame, push_frame};
 pub use handlers::{frame_address, handler_mask, handler_regs, interrupted_regs};
 pub use kernel_model::Action;
 use mck_flags::SigSet;
-pub use sets::{as_mask, has, lowest, minus, union, with_signal, without_signal};
+pub use sets::{
+    as_mask, common, has, lowest, may_be_sent, minus, new_mask, union, with_signal, without_signal,
+};
 use std::marker::Model;
 
 const DEFAULT: u64 = 0;

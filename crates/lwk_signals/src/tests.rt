@@ -110,3 +110,34 @@ fn handlers_begin(rt: HostRuntime) {
     assert_eq!(rt; (h.pc, h.x[1], h.x[2]), (65536, 0x3f_ffff_f000, 3824));
     assert_eq!(rt; (h.x[10], h.x[11], h.x[12], h.x[31]), (10, 0, 0, 255));
 }
+
+#[test]
+fn actions_and_sets_as_bytes(rt: HostRuntime) {
+    let mut bytes = [0; 24];
+    let action = Action {
+        handler: 65538,
+        flags: 0x1000_0000,
+        mask: set_of(1, 9),
+    };
+    put_action(&action, &mut bytes);
+    assert_eq!(rt; &bytes[..4], [2, 0, 1, 0].as_slice());
+    assert_eq!(rt; &bytes[8..12], [0, 0, 0, 16].as_slice());
+    assert_eq!(rt; &bytes[16..18], [1, 1].as_slice());
+    let back = action_in(&bytes);
+    assert_eq!(rt;
+        (back.handler, back.flags, back.mask),
+        (65538, 0x1000_0000, set_of(1, 1))
+    );
+    put_set(set_of(2, 10), &mut bytes[..8]);
+    assert_eq!(rt; set_in(&bytes[..8]), set_of(2, 10));
+}
+
+#[test]
+fn masks_are_changed(rt: HostRuntime) {
+    assert_eq!(rt; new_mask(0, set_of(3, 9), set_of(4, 4)), set_of(3, 4));
+    assert_eq!(rt; new_mask(1, set_of(3, 9), set_of(3, 4)), set_of(4, 4));
+    assert_eq!(rt; new_mask(2, set_of(3, 19), set_of(4, 4)), set_of(3, 3));
+    assert_eq!(rt; common(set_of(3, 5), set_of(5, 6)), set_of(5, 5));
+    assert!(rt; may_be_sent(9) && may_be_sent(64));
+    assert!(rt; !may_be_sent(0) && !may_be_sent(19) && !may_be_sent(22) && !may_be_sent(65));
+}

@@ -1,0 +1,74 @@
+-- Parts of the calls on signals of kernel_model's specs, as the code takes them.
+use Rattle.file_model.specs.Errno.{EFAULT, EINVAL}
+use Rattle.isa_model.specs.Memory.{Memory, may_access, read_bytes, write_bytes}
+use Rattle.kernel_model.specs.Nodes.{Node, Thread, change_thread}
+use Rattle.kernel_model.specs.SignalCalls.{action_in, is_how, is_signal, new_mask}
+use Rattle.kernel_model.specs.Signals.{View, drop_ignored, frame_bytes, frame_size, store, with_action}
+use Rattle.kernel_model.specs.declared.Action.{Action}
+use Rattle.lwk_views.specs.Views.{tried}
+use Rattle.mck_flags.specs.declared.signal_set.SigSet.{SigSet}
+use Rattle.mck_word.specs.Words.{number_of, refused}
+use Rattle.mck_word.specs.declared.Access.TheVariants.{Read, Write}
+use Rattle.mck_word.specs.declared.Regs.{Regs}
+use Rattle.std.specs.Prelude.{Bool, List, None, Option, Some, cond, not, ℕ, ℤ, ◌&&◌, ◌==◌, ◌||◌}
+
+-- ---- pointers, which ask for nothing where they are 0
+
+abbrev pub readable : Memory → ℕ → ℕ → Bool
+readable m address n = address == 0 || may_access m Read address n
+
+abbrev pub writable : Memory → ℕ → ℕ → Bool
+writable m address n = address == 0 || may_access m Write address n
+
+abbrev pub lacks_access : Memory → ℕ → ℕ → ℕ → Bool
+lacks_access m read write n = not (readable m read n) || not (writable m write n)
+
+abbrev pub stores_at : ℕ → List ℕ → View → View
+stores_at address bytes v = cond (address == 0) v (store address bytes v)
+
+-- the memory after such a store, which is left out where it can't be made
+abbrev pub put_at : ℕ → List ℕ → Memory → Memory
+put_at address bytes m = cond (address == 0) m (tried address bytes m)
+
+-- the memory after the frame of a handler is stored, where it may be
+abbrev pub framed : ℕ → Regs → ℕ → Memory → Memory
+framed sp r mask m = cond (may_access m Write sp frame_size) (write_bytes m sp (frame_bytes r mask)) m
+
+-- the action or the set that stands there
+abbrev pub asked_action : Memory → ℕ → Option Action
+asked_action m address = cond (address == 0) None (Some (action_in (read_bytes m address 24)))
+
+abbrev pub asked_set : Memory → ℕ → Option SigSet
+asked_set m address = cond (address == 0) None (Some (record { 0 = number_of (read_bytes m address 8) }))
+
+-- ---- refusals
+
+abbrev pub is_wrong_action : ℤ → ℕ → ℕ → Bool
+is_wrong_action signal act size = not (size == 8) || not (is_signal signal act)
+
+abbrev pub is_wrong_mask : ℤ → ℕ → ℕ → Bool
+is_wrong_mask how address size = not (size == 8) || (not (address == 0) && not (is_how how))
+
+-- why rt_sigaction is refused
+abbrev pub action_refusal : Memory → ℤ → ℕ → ℕ → ℕ → Option ℤ
+action_refusal m signal act old size =
+    cond (is_wrong_action signal act size) (Some (refused EINVAL))
+    (cond (lacks_access m act old 24) (Some (refused EFAULT)) None)
+
+-- why rt_sigprocmask is refused
+abbrev pub mask_refusal : Memory → ℤ → ℕ → ℕ → ℕ → Option ℤ
+mask_refusal m how address old size =
+    cond (is_wrong_mask how address size) (Some (refused EINVAL))
+    (cond (lacks_access m address old 8) (Some (refused EFAULT)) None)
+
+-- ---- what is asked for
+
+-- the process does something else at the signal
+abbrev pub given_action : ℕ → ℕ → Option Action → Node → Node
+given_action p signal None node = node
+given_action p signal (Some a) node = drop_ignored p signal (with_action p signal a node)
+
+-- the thread has another mask
+abbrev pub given_mask : ℕ → ℤ → Option SigSet → Node → Node
+given_mask t how None node = node
+given_mask t how (Some set) node = change_thread t (λ (x : Thread). record x { mask = new_mask how set.0 x.mask }) node
