@@ -21,7 +21,7 @@ mod sends;
 mod waiting;
 
 pub use actions::sigaction;
-pub use cloning::clone;
+pub use cloning::{are_fork_flags, clone};
 pub use delivers::{deliver, return_from_handler};
 pub use endings::{exits, exits_group};
 pub use futexes::futex;

@@ -8,6 +8,7 @@ mod answers;
 mod begun;
 mod clones;
 mod delivers;
+mod forks;
 mod intake;
 mod interrupts;
 mod kernel;

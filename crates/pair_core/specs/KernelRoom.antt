@@ -8,10 +8,12 @@ use Rattle.ikc_ring.specs.declared.Msg.{Msg}
 use Rattle.ikc_ring.specs.declared.Msg.TheVariants.{Ack}
 use Rattle.kernel_model.specs.Nodes.{Node}
 use Rattle.lwk_node.specs.Shown.{node_of}
+use Rattle.lwk_side.specs.Built.{is_built_trap}
+use Rattle.lwk_side.specs.Cloning.{calls_fork}
 use Rattle.mck_word.specs.Maps.{at}
 use Rattle.pair_core.specs.declared.parts.Parts.{Parts}
 use Rattle.pair_core.specs.declared.parts.Side.{Side}
-use Rattle.std.specs.Prelude.{None, Option, Some, cond, ℕ, ◌+◌, ◌<◌, ◌^◌, ◌≡◌, ◌≤◌}
+use Rattle.std.specs.Prelude.{Bool, None, Option, Some, cond, not, ℕ, ◌&&◌, ◌+◌, ◌<◌, ◌^◌, ◌≡◌, ◌≤◌}
 
 -- the process of an event of the lightweight kernel
 abbrev pub kernel_process : Node → Event → Option ℕ
@@ -42,3 +44,7 @@ module _ {T F : Type 0} (files : F → Files) where
   HasKernelRoom (Trap t) x = HasTrapRoom x (of_thread (node_of x.lwk.node (files x.files)) t.0)
   HasKernelRoom (BeginVm t) x = HasRoundRoom x (of_thread (node_of x.lwk.node (files x.files)) t.0)
   HasKernelRoom _ x = Unit {0}
+
+-- the trap of the thread is built, and it is no fork
+abbrev pub is_built_here : Node → ℕ → Bool
+is_built_here node t = is_built_trap node t && not (calls_fork node t)
