@@ -10,6 +10,7 @@ mod boot_guests;
 mod boot_script;
 mod booting;
 mod built;
+mod delivers;
 mod kernel_events;
 mod kernel_may;
 mod kernel_room;
