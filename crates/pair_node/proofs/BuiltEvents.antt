@@ -1,6 +1,7 @@
 -- What is built of the events: it makes no process, and a message that is taken is no acknowledgement.
 use Rattle.file_model.specs.Files.{Files}
 use Rattle.hybrid_laws.specs.CallsLast.{born-is}
+use Rattle.hybrid_laws.specs.Tests.{both}
 use Rattle.hybrid_model.specs.Events.{after, after_here, may, process_of_event}
 use Rattle.hybrid_model.specs.Globals.{Coherent}
 use Rattle.hybrid_model.specs.Pairs.{Pair, here}
@@ -10,16 +11,15 @@ use Rattle.hybrid_model.specs.declared.events.Event.TheVariants.{Intake, Trap}
 use Rattle.hybrid_model.specs.declared.events.Event.{Event}
 use Rattle.ikc_ring.specs.declared.Msg.TheVariants.{Ack}
 use Rattle.ikc_ring.specs.declared.Msg.{Msg}
-use Rattle.isa_model.specs.Registers.{reg}
-use Rattle.isa_model.specs.declared.stops.Stop.TheVariants.{Ecall}
-use Rattle.kernel_model.specs.Nodes.{Node, stop_in, thread_of}
+use Rattle.kernel_model.specs.Nodes.{Node}
 use Rattle.lwk_node.specs.Shown.{node_of}
-use Rattle.lwk_side.specs.Built.{is_built_call, is_built_stop, is_built_trap}
+use Rattle.lwk_side.specs.Built.{is_built_trap}
+use Rattle.lwk_side.specs.Cloning.{calls_fork}
 use Rattle.mck_word.specs.Maps.{Map, at, keys}
 use Rattle.mck_word.specs.declared.Pid.{Pid}
 use Rattle.mck_word.specs.declared.Tid.{Tid}
 use Rattle.pair_core.proofs.KernelFacts.{side-is}
-use Rattle.pair_core.specs.KernelRoom.{IsBuilt}
+use Rattle.pair_core.specs.KernelRoom.{IsBuilt, is_built_here}
 use Rattle.pair_core.specs.Shown.{pair_of}
 use Rattle.pair_core.specs.declared.parts.Parts.{Parts}
 use Rattle.pair_core.specs.declared.parts.Side.{Side}
@@ -27,23 +27,15 @@ use Rattle.pair_node.proofs.Numbered.{keys-stay, trap-born}
 use Rattle.pair_node.specs.Built.{built, is_built_message}
 use Rattle.std.proofs.Common.{ap, arith, refl, subst, sym, ◌∙◌}
 use Rattle.std.proofs.lemmas.Bool.Decides.{nat_tests}
-use Rattle.std.specs.Prelude.{Bool, None, Option, Some, false, is_some, true, ℕ, ◌==◌, ◌≡◌}
+use Rattle.std.specs.Prelude.{Bool, None, Option, Some, false, is_some, not, true, ℕ, ◌≡◌}
 
 -- ---- no process begins
-not-clone : (n : ℕ) → is_built_call n ≡ true → (n == 220) ≡ false
-not-clone n e = go (n == 220) refl
-  where
-    go : (b : Bool) → (n == 220) ≡ b → (n == 220) ≡ false
-    go false f = f
-    go true f = absurd (
-        let g : n ≡ 220 = grind (arith, nat_tests, f) in
-        let h : false ≡ true = ap is_built_call (sym g) ∙ e in
-        grind (arith, h))
+not-so : (b : Bool) → not b ≡ true → b ≡ false
+not-so false e = refl
+not-so true e = absurd (grind (arith, e))
 
-no-clone : (node : Node) (t : ℕ) → is_built_trap node t ≡ true → stop_in (thread_of node t).does ≡ Some Ecall → (reg (thread_of node t).regs 17 == 220) ≡ false
-no-clone node t e stop =
-    let number = reg (thread_of node t).regs 17 in
-    not-clone number (sym (ap (is_built_stop number) stop) ∙ e)
+no-fork : (node : Node) (t : ℕ) → is_built_here node t ≡ true → calls_fork node t ≡ false
+no-fork node t e = not-so (calls_fork node t) (both (is_built_trap node t) (not (calls_fork node t)) e).1
 
 pub none-begins : (pair : Pair) (e : Event) → built pair e ≡ true → (p : ℕ) → (after_here e p (here pair p)).born ≡ None
 none-begins pair e b p = go (after_here e p (here pair p)).born refl
@@ -52,7 +44,7 @@ none-begins pair e b p = go (after_here e p (here pair p)).born refl
     go None f = f
     go (Some y) f = absurd (
         let a = born-is e p (here pair p) refl y f in
-        let none = trap-born p a.thread.0 (here pair p) (no-clone pair.node a.thread.0 (subst (λ (d : Event). built pair d ≡ true) a.traps b)) in
+        let none = trap-born p a.thread.0 (here pair p) (no-fork pair.node a.thread.0 (subst (λ (d : Event). built pair d ≡ true) a.traps b)) in
         let some = subst (λ (d : Event). (after_here d p (here pair p)).born ≡ Some y) a.traps f in
         let same : None ≡ Some y = sym none ∙ some in
         let test = ap is_some same in
@@ -72,4 +64,8 @@ module _ {T F : Type 0} (rows : T → Map Row) (files : F → Files) (x : Parts 
 
   pub built-trap : (t : Tid) → built (pair_of rows files x) (Trap t) ≡ true → (other : Files) → is_built_trap (node_of x.lwk.node other) t.0 ≡ true
   unfolding pair_of node_of
-  built-trap t e other = e
+  built-trap t e other = (both (is_built_trap (node_of x.lwk.node other) t.0) _ e).0
+
+  pub built-fork : (t : Tid) → built (pair_of rows files x) (Trap t) ≡ true → (other : Files) → calls_fork (node_of x.lwk.node other) t.0 ≡ false
+  unfolding pair_of node_of
+  built-fork t e other = no-fork (node_of x.lwk.node other) t.0 e

@@ -35,7 +35,6 @@ pub fn is_built<T: PageTable + Drop, F: FileStore>(parts: &Parts<T, F>, event: E
     ensures { result ≡ built (pair_of T.rows F.files parts.now) event }
 {
     match event {
-        Event::Deliver(_) => false,
         Event::Intake(p) => is_built_intake(parts, p),
         Event::Trap(t) => parts.is_built_trap(t),
         _ => true,

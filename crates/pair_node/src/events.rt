@@ -27,6 +27,7 @@ pub fn happen<T: PageTable + Drop, F: FileStore>(
     match event {
         Event::Run(core, t, most) => parts.run(core, t, most),
         Event::Trap(t) => parts.trap(t),
+        Event::Deliver(t) => parts.deliver(t),
         Event::Intake(p) => parts.intake(p),
         Event::Answer(p, w) => parts.answer(p, w),
         Event::BeginVm(t) => parts.begin_vm(t),
@@ -45,7 +46,5 @@ pub fn happen<T: PageTable + Drop, F: FileStore>(
         Event::Unpark(p, q) => parts.unpark(p, q),
         Event::Finish(p, w) => parts.finish(p, w),
         Event::AckClear(p) => parts.ack_clear(p),
-        // It isn't built, so there is no room for it.
-        Event::Deliver(_) => {}
     }
 }
