@@ -1,1 +1,4 @@
 pub mod MayLwk
+pub mod Sound
+pub mod Shows
+pub mod Summed

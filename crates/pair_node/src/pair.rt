@@ -12,10 +12,12 @@ use hybrid_model::Event;
 use mck_word::Pid;
 use page_map::PageTable;
 use pair_core::Parts;
+use std::alloc::Global;
 
 /// The two kernels in a state that they reach, beside the numbers of their processes, rising.
 #[derive(Drop)]
 pub struct Pair<T: PageTable, F: FileStore> {
+    pub alloc: Global,
     pub parts: Parts<T, F>,
     pub pids: Vec<Pid>,
     pub ghost sound: { ∥ IsSound (pair_of T.rows F.files parts) ∥₁ },
