@@ -1,11 +1,11 @@
 // Room for the events of the lightweight kernel.
-ghost use Rattle.hybrid_model.specs.declared.events.Event.TheVariants.{Trap};
+ghost use Rattle.hybrid_model.specs.declared.events.Event.TheVariants.{BeginVm, Trap};
 ghost use Rattle.mck_word.specs.Maps.{at};
 ghost use Rattle.pair_core.specs.KernelRoom.{HasCallRoom, HasKernelRoom};
 ghost use Rattle.pair_core.specs.Kept.{Kept};
 ghost use Rattle.pair_core.specs.Shown.{pair_of};
 ghost use Rattle.pair_core.specs.declared.parts.Side.{Side as side_row};
-ghost use Rattle.std.specs.Prelude.{◌≡◌, ◌≤◌, OnOk, Some};
+ghost use Rattle.std.specs.Prelude.{◌≡◌, ◌≤◌, ◌+◌, ◌<◌, ◌^◌, OnOk, Some};
 
 use crate::parts::Parts;
 use file_calls::store::FileStore;
@@ -24,6 +24,16 @@ fn reserve_call(callers: &mut Rows<Caller>, book: &mut Book) -> Result<(), NoMem
 {
     book.reserve()?;
     if callers.reserve(1).is_err() {
+        return Err(NoMemory);
+    }
+    Ok(())
+}
+
+/// One round more can be counted. `NoMemory` where not.
+fn check_count(begun: u64) -> Result<(), NoMemory>
+    ensures { OnOk result (begun + 1 < 2 ^ 64) }
+{
+    if begun == u64::MAX {
         return Err(NoMemory);
     }
     Ok(())
@@ -64,6 +74,17 @@ impl<T: PageTable + Drop, F: FileStore> Parts<T, F> {
         self.make_call_room(p)
     }
 
+    /// A round more of the thread's process can be counted. `NoMemory` where not.
+    fn make_round_room(&self, t: Tid) -> Result<(), NoMemory>
+        ensures { OnOk result (HasKernelRoom F.files (BeginVm t) self.now) }
+    {
+        let p = self.lwk.node.process_of_thread(t);
+        match self.sides.get(p.0 as u64) {
+            Some(side) => check_count(side.task.begun),
+            None => Ok(()),
+        }
+    }
+
     /// Makes the room that the event of the lightweight kernel needs. The parts show the same, also where memory lacks.
     pub fn make_kernel_room(&mut self, event: Event) -> Result<(), NoMemory>
         ensures same { pair_of T.rows F.files self.new ≡ pair_of T.rows F.files self.old }
@@ -72,6 +93,7 @@ impl<T: PageTable + Drop, F: FileStore> Parts<T, F> {
     {
         match event {
             Event::Trap(t) => self.make_trap_room(t),
+            Event::BeginVm(t) => self.make_round_room(t),
             _ => Ok(()),
         }
     }

@@ -9,6 +9,7 @@ mod boot_files;
 mod boot_guests;
 mod boot_script;
 mod booting;
+mod built;
 mod kernel_events;
 mod kernel_may;
 mod kernel_room;

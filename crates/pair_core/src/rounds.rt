@@ -4,12 +4,11 @@ ghost use Rattle.hybrid_model.specs.declared.events.Event.TheVariants.{BeginVm};
 ghost use Rattle.kernel_model.specs.MemoryCalls.{closing_range};
 ghost use Rattle.kernel_model.specs.Nodes.{Process};
 ghost use Rattle.kernel_model.specs.Pages.{page_end};
-ghost use Rattle.mck_word.specs.Maps.{at};
+ghost use Rattle.pair_core.specs.KernelRoom.{HasKernelRoom};
 ghost use Rattle.pair_core.specs.Kept.{Kept};
 ghost use Rattle.pair_core.specs.Ready.{Ready};
 ghost use Rattle.pair_core.specs.Shown.{pair_of};
-ghost use Rattle.pair_core.specs.declared.parts.Side.{Side as side_row};
-ghost use Rattle.std.specs.Prelude.{◌≡◌, ◌+◌, ◌<◌, ◌^◌, Some, ℕ};
+ghost use Rattle.std.specs.Prelude.{◌≡◌};
 
 use crate::parts::Parts;
 use file_calls::store::FileStore;
@@ -52,7 +51,7 @@ impl<T: PageTable + Drop, F: FileStore> Parts<T, F> {
     pub fn begin_vm(&mut self, t: Tid)
         requires ready { Ready (pair_of T.rows F.files self.old) (BeginVm t) }
         requires kept { Kept self.old }
-        requires few { (p : ℕ) (s : side_row T) → at self.old.sides.map p ≡ Some s → s.task.begun + 1 < 2 ^ 64 }
+        requires room { HasKernelRoom F.files (BeginVm t) self.old }
         ensures after { pair_of T.rows F.files self.new ≡ after (pair_of T.rows F.files self.old) (BeginVm t) }
         ensures kept { Kept self.new }
     {

@@ -3,7 +3,7 @@ use Rattle.hybrid_laws.specs.BootCoherent.{begins, boot-coherent}
 use Rattle.hybrid_laws.specs.CallsLast.{lasting-after}
 use Rattle.hybrid_laws.specs.EveryEvent.{whole_event}
 use Rattle.hybrid_model.specs.Boot.{boot, shortage}
-use Rattle.hybrid_model.specs.Events.{after, may}
+use Rattle.hybrid_model.specs.Events.{after}
 use Rattle.hybrid_model.specs.Pairs.{Pair}
 use Rattle.hybrid_model.specs.declared.events.Event.{Event}
 use Rattle.job_model.specs.Prepared.{IsPrepared}
@@ -13,7 +13,7 @@ use Rattle.offer_laws.specs.Small.{boot-small, small-after}
 use Rattle.pair_core.specs.Ready.{IsSound, Ready}
 use Rattle.std.proofs.Common.{subst, sym}
 use Rattle.std.proofs.Math.Logic.{∥∥₁_map}
-use Rattle.std.specs.Prelude.{List, None, true, ◌≡◌}
+use Rattle.std.specs.Prelude.{List, None, ◌≡◌}
 use Rattle.told_states.specs.ToldState.{coherent-told, lasting-told, small-told}
 
 pub sound-told : (pair : Pair) → ∥ IsSound pair ∥₁ → IsSound pair

@@ -1,13 +1,14 @@
 use Rattle.hybrid_model.specs.Pairs.{Here}
 use Rattle.hybrid_model.specs.declared.events.Event.TheVariants.{BeginVm}
 use Rattle.kernel_model.specs.Nodes.{change_in, process_of}
+use Rattle.mck_word.specs.Maps.{at}
 use Rattle.pair_core.proofs.Found.{after-is, has-row, may-here, row-there}
 use Rattle.pair_core.proofs.KernelFacts.{kept-after, process-is, wired}
 use Rattle.pair_core.proofs.Posting.{MayBegin, begin-is, begin-posts, may-begin-is, no-change, own-ring, place-of}
 use Rattle.pair_core.proofs.parts.Parts.begin_vm.Goals as goal
 use Rattle.pair_core.specs.Shown.{here_in, pair_of, rest_of}
 use Rattle.std.proofs.Common.{ap, refl, sym, ◌∙◌}
-use Rattle.std.specs.Prelude.{is_some}
+use Rattle.std.specs.Prelude.{is_some, ℕ}
 
 pub returns-in_default : goal.returns-in_default
 returns-in_default g c = absurd (
@@ -53,6 +54,13 @@ begin_round-requires-clause-none g c =
     let process = process-is g.T.PageTable.rows g.F.FileStore.files x c.args.t.0 p c.process_of_thread-p.ensures in
     let may : MayBegin c.args.t.0 h = may-begin-is c.args.t.0 h (may-here g.T.PageTable.rows g.F.FileStore.files x p s (BeginVm c.args.t) c.row_mut-side.ensures.value process c.requires.ready) in
     may.none
+
+pub begin_round-requires-clause-few : goal.begin_round-requires-clause-few
+unfolding pair_of
+begin_round-requires-clause-few g c =
+    let x = c.args.self.now in
+    let process = process-is g.T.PageTable.rows g.F.FileStore.files x c.args.t.0 c.process_of_thread-p.result.0 c.process_of_thread-p.ensures in
+    c.requires.room.few c.row_mut-side.result.now (ap (λ (q : ℕ). at x.sides.map q) process ∙ c.row_mut-side.ensures.value)
 
 pub returns-clause-after : goal.returns-clause-after
 returns-clause-after g c =
