@@ -1,0 +1,4 @@
+pub mod ByKey
+pub mod Places
+pub mod Ordered
+pub mod Consoles

@@ -1,0 +1,4 @@
+use Rattle.file_summary.proofs.path_rows.+add_path.Given as goal
+
+abbrev pub decreases-add_path : goal.decreases-add_path
+decreases-add_path g l = l.most
