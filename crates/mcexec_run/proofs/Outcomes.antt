@@ -1,5 +1,6 @@
 -- The outcome of a walk.
 use Rattle.hybrid_model.specs.Boot.{shortage}
+use Rattle.hybrid_model.specs.Claims.{Headline}
 use Rattle.hybrid_model.specs.Journals.{IsLegal, ending, may_all, state}
 use Rattle.hybrid_model.specs.Pairs.{Pair}
 use Rattle.hybrid_model.specs.declared.events.Ending.TheVariants.{Unfinished}
@@ -24,6 +25,10 @@ use Rattle.run_model.specs.Texts.{text_of}
 use Rattle.run_model.specs.Walks.{walk_for}
 use Rattle.std.proofs.Common.{Bool, Err, IfOk, List, None, Ok, Option, Result, Some, String, ap, arith, get_or, string_bytes, length, refl, subst, sym, true, ℕ, [], ◌+◌, ◌∙◌, ◌∷◌, ◌≡◌, ◌≢◌, ◌≤◌}
 
+-- the whole claim of each legal journal of a job
+abbrev pub Claimed : Prepared → Type 0
+Claimed p = (journal : List Event) → IsLegal p.job p.images journal → Headline p.job p.images journal
+
 -- a refusal before the run
 pub refused : {W : Type 0} (ready : Result W Status) (SoFar Stops : W → List Event → Type 0) (Shows : W → Status → List Event → List ℕ → Type 0) (status : Status) (journal : List Event) (old new : Option (List ℕ)) →
     IsRefusal status → Fails status ready → journal ≡ [] → new ≡ old → Outcome ready SoFar Stops Shows status journal old new
@@ -35,41 +40,47 @@ refused ready SoFar Stops Shows HostFault journal old new r f j n = HostFailed r
 refused ready SoFar Stops Shows NoMemory journal old new r f j n = NoneStarted refl j n
 refused ready SoFar Stops Shows status journal old new r f j n = absurd r
 
-put_walk : (built : Pair → Event → Bool) (ready : Result Prepared Status) (p : Prepared) (order : ℕ) (form : Form) (journal : List Event) (status : Status) (old new : Option (List ℕ)) → ready ≡ Ok p
+put_walk : (built : Pair → Event → Bool) (ready : Result Prepared Status) (p : Prepared) (order : ℕ) (form : Form) (journal : List Event) (status : Status) (old new : Option (List ℕ)) → ready ≡ Ok p → Claimed p
     → walk_for (words_of order) (length journal) (walker_at (booted p)) ≡ journal → walk_for (words_of order) (length journal + 1) (walker_at (booted p)) ≡ journal
     → IsLegal p.job p.images journal → ending (last_state p journal) ≢ Unfinished
     → Puts (status_of (ending (last_state p journal))) (text_at form (last_state p journal) journal) status old new → WalkOutcome built ready order form status journal old new
-put_walk built ready p order form journal status old new r f w l o (AllPut e t) =
-    Shown p (text_at form (last_state p journal) journal) r (record { walked = (length journal, f, w); legal = l; over = o; ends = e; written = refl }) t
-put_walk built ready p order form journal status old new r f w l o (FrontPut e t) =
-    SinkFailed p (text_at form (last_state p journal) journal) (status_of (ending (last_state p journal))) e r (record { walked = (length journal, f, w); legal = l; over = o; ends = refl; written = refl }) t
-put_walk built ready p order form journal status old new r f w l o (NonePut e n) = RanShort p e r (record { front = f; legal = l }) n
+put_walk built ready p order form journal status old new r every f w l o (AllPut e t) =
+    Shown p (text_at form (last_state p journal) journal) r (record { walked = (length journal, f, w); legal = l; headline = every journal l; over = o; ends = e; written = refl }) t
+put_walk built ready p order form journal status old new r every f w l o (FrontPut e t) =
+    SinkFailed p (text_at form (last_state p journal) journal) (status_of (ending (last_state p journal))) e r (record { walked = (length journal, f, w); legal = l; headline = every journal l; over = o; ends = refl; written = refl }) t
+put_walk built ready p order form journal status old new r every f w l o (NonePut e n) = RanShort p e r (record { front = f; legal = l; headline = every journal l }) n
 
 -- from the machine's state at the start and at the end
-pub walk_outcome : (built : Pair → Event → Bool) (ready : Result Prepared Status) (p : Prepared) (first end : Pair) (order : ℕ) (form : Form) (journal journal' : List Event) (status : Status) (old new : Option (List ℕ)) → ready ≡ Ok p → first ≡ booted p
+pub walk_outcome : (built : Pair → Event → Bool) (ready : Result Prepared Status) (p : Prepared) (first end : Pair) (order : ℕ) (form : Form) (journal journal' : List Event) (status : Status) (old new : Option (List ℕ)) → ready ≡ Ok p → Claimed p → first ≡ booted p
     → walk_for (words_of order) (length journal) (walker_at first) ≡ journal → walk_for (words_of order) (length journal + 1) (walker_at first) ≡ journal
     → shortage p.job p.images ≡ None → may_all first journal ≡ true → end ≡ state first journal → ending end ≢ Unfinished → journal' ≡ journal
     → Puts (status_of (ending end)) (text_at form end journal') status old new → WalkOutcome built ready order form status journal old new
-walk_outcome built ready p first end order form journal journal' status old new r s f w h l e o j puts =
+walk_outcome built ready p first end order form journal journal' status old new r every s f w h l e o j puts =
     let whole : end ≡ last_state p journal = subst (λ (x : Pair). end ≡ state x journal) s e in
-    put_walk built ready p order form journal status old new r
+    put_walk built ready p order form journal status old new r every
     (subst (λ (x : Pair). walk_for (words_of order) (length journal) (walker_at x) ≡ journal) s f)
     (subst (λ (x : Pair). walk_for (words_of order) (length journal + 1) (walker_at x) ≡ journal) s w)
     (h, subst (λ (x : Pair). may_all x journal ≡ true) s l)
     (subst (λ (x : Pair). ending x ≢ Unfinished) whole o)
     (subst (λ (x : Pair). Puts (status_of (ending x)) (text_at form x journal) status old new) whole (subst (λ (js : List Event). Puts (status_of (ending end)) (text_at form end js) status old new) j puts))
 
-pub ran_short : (built : Pair → Event → Bool) (ready : Result Prepared Status) (p : Prepared) (first : Pair) (order : ℕ) (form : Form) (journal : List Event) (old new : Option (List ℕ)) → ready ≡ Ok p → first ≡ booted p
+-- a front of a walk, from the machine's state at the start
+leaves : (p : Prepared) (first : Pair) (order : ℕ) (journal : List Event) → Claimed p → first ≡ booted p → walk_for (words_of order) (length journal) (walker_at first) ≡ journal
+    → shortage p.job p.images ≡ None → may_all first journal ≡ true → LeavesWalk order p journal
+leaves p first order journal every s f h l =
+    let legal : IsLegal p.job p.images journal = (h, subst (λ (x : Pair). may_all x journal ≡ true) s l) in
+    record { front = subst (λ (x : Pair). walk_for (words_of order) (length journal) (walker_at x) ≡ journal) s f; legal = legal; headline = every journal legal }
+
+pub ran_short : (built : Pair → Event → Bool) (ready : Result Prepared Status) (p : Prepared) (first : Pair) (order : ℕ) (form : Form) (journal : List Event) (old new : Option (List ℕ)) → ready ≡ Ok p → Claimed p → first ≡ booted p
     → walk_for (words_of order) (length journal) (walker_at first) ≡ journal → shortage p.job p.images ≡ None → may_all first journal ≡ true → new ≡ old → WalkOutcome built ready order form NoMemory journal old new
-ran_short built ready p first order form journal old new r s f h l n =
-    RanShort p refl r (record { front = subst (λ (x : Pair). walk_for (words_of order) (length journal) (walker_at x) ≡ journal) s f; legal = (h, subst (λ (x : Pair). may_all x journal ≡ true) s l) }) n
+ran_short built ready p first order form journal old new r every s f h l n = RanShort p refl r (leaves p first order journal every s f h l) n
 
 -- from the machine's state at the start
-pub unbuilt : (built : Pair → Event → Bool) (ready : Result Prepared Status) (p : Prepared) (first : Pair) (order : ℕ) (form : Form) (journal : List Event) (old new : Option (List ℕ)) → ready ≡ Ok p → first ≡ booted p
+pub unbuilt : (built : Pair → Event → Bool) (ready : Result Prepared Status) (p : Prepared) (first : Pair) (order : ℕ) (form : Form) (journal : List Event) (old new : Option (List ℕ)) → ready ≡ Ok p → Claimed p → first ≡ booted p
     → walk_for (words_of order) (length journal) (walker_at first) ≡ journal → shortage p.job p.images ≡ None → may_all first journal ≡ true → StopsAt built order first journal → new ≡ old
     → WalkOutcome built ready order form NotBuilt journal old new
-unbuilt built ready p first order form journal old new r s f h l stops n =
-    Unbuilt p refl r (record { front = subst (λ (x : Pair). walk_for (words_of order) (length journal) (walker_at x) ≡ journal) s f; legal = (h, subst (λ (x : Pair). may_all x journal ≡ true) s l) })
+unbuilt built ready p first order form journal old new r every s f h l stops n =
+    Unbuilt p refl r (leaves p first order journal every s f h l)
     (subst (λ (x : Pair). StopsAt built order x journal) s stops) n
 
 -- ---- a job that was gathered

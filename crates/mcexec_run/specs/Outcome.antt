@@ -1,5 +1,6 @@
 -- What a call of the program answers, what it keeps and what it writes: the table of statuses, row by row.
 use Rattle.hybrid_model.specs.Boot.{boot}
+use Rattle.hybrid_model.specs.Claims.{Headline}
 use Rattle.hybrid_model.specs.Journals.{IsLegal, ending, state}
 use Rattle.hybrid_model.specs.Pairs.{Pair}
 use Rattle.hybrid_model.specs.Shown.{one}
@@ -64,18 +65,20 @@ pub data Puts (meant : Status) (text : List ℕ) (status : Status) (old new : Op
 
 -- ---- a walk
 
--- It comes to the journal that the order names, to the status of its ending and to its text.
+-- It comes to the journal that the order names, to the status of its ending and to its text. Of the journal the whole claim holds.
 pub record ShowsWalk (order : ℕ) (form : Form) (p : Prepared) (status : Status) (journal : List Event) (text : List ℕ) : Type 0 where
   pub walked : IsWalked p.job p.images (words_of order) journal
   pub legal : IsLegal p.job p.images journal
+  pub headline : Headline p.job p.images journal
   pub over : ending (last_state p journal) ≢ Unfinished
   pub ends : status ≡ status_of (ending (last_state p journal))
   pub written : text ≡ text_at form (last_state p journal) journal
 
--- What a walk may leave that does not come to its end: a front of its journal.
+-- What a walk may leave that does not come to its end: a front of its journal. Of that too the whole claim holds.
 pub record LeavesWalk (order : ℕ) (p : Prepared) (journal : List Event) : Type 0 where
   pub front : walk_for (words_of order) (length journal) (start p.job p.images) ≡ journal
   pub legal : IsLegal p.job p.images journal
+  pub headline : Headline p.job p.images journal
 
 -- Where a walk stops before its end: the event whose turn it is is not built.
 abbrev pub StopsWalk : (Pair → Event → Bool) → ℕ → Prepared → List Event → Type 0

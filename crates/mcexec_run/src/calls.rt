@@ -14,6 +14,7 @@ use crate::chain::{Prepared, gather};
 use crate::command::{Command, Form, read_command};
 use crate::machine::{BootError, Machine, Refused};
 use crate::walking::walk_journal;
+use hybrid_laws::whole::every_legal_journal;
 use hybrid_model::Event;
 use mck_report::{Status, report, trace};
 use mck_word::{Bytes, Items, NoMemory};
@@ -127,6 +128,7 @@ fn walk_into<M: Machine, S: Sink>(
         Ok(machine) => machine,
         Err(status) => return status,
     };
+    every_legal_journal();
     match walk_journal(&mut machine, order, journal) {
         Ok(()) => show(alloc, &machine, journal.as_slice(), form, sink),
         Err(Refused::NoMemory) => Status::NoMemory,
@@ -158,6 +160,14 @@ fn walk_job<M: Machine, H: Host, S: Sink>(
 
 /// Walks the job under a name in that order, and writes the report or the trace. Before an event that is not built the walk stops,
 /// and nothing is written.
+///
+/// The main theorem holds of the journal that it keeps, also where the walk stops before its end. Read without proxies, mirrors and
+/// clear rounds, the journal is a run of the one-kernel machine, from that machine's boot of the same job to the state that the two
+/// kernels show at its end. After each event the state is coherent, what the event shows of itself are steps that the one-kernel machine
+/// may take there, a copy by the Linux side reaches the frame that the process's own table gives, with the right that it needs, and a frame
+/// that is handed out was free or is given up by the same event, is referred to by nothing, and holds zeros or a fork's copy. Each
+/// request number gets one reply at most, and has had it where the run is over, but for calls that wait for ever in a process that lives.
+/// And where no event may happen any more, the one-kernel machine has no step either: the two kernels add no stall.
 pub fn walk<M: Machine, H: Host, S: Sink>(
     alloc: Global,
     job: &str,
@@ -263,7 +273,8 @@ fn answer(alloc: Global, status: Status) -> Ended
     }
 }
 
-/// Runs the command that the words are. `run`, `replay`, `audit` and `grow` are not built yet.
+/// Runs the command that the words are. `run`, `replay`, `audit` and `grow` are not built yet. Where the words are a walk's, the main
+/// theorem holds of the journal that is kept, as `walk` says.
 pub fn mcexec<M: Machine, H: Host, S: Sink>(
     alloc: Global,
     words: &[String],

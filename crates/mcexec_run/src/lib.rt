@@ -3,8 +3,9 @@
 //!
 //! Promises: each status has its cause as a clause, and the outcome of a call is one relation with a case for each row of the table
 //! of statuses; a walk's journal is the one that its order names, legal, up to where no event is offered, and its text is written
-//! byte for byte. A walk that comes to an event which is not built keeps its journal so far and says so. The calls are over any
-//! `Machine`. The definitions stand in specs/: Commands, Chain, Walking, Outcome.
+//! byte for byte. Of every journal that a walk keeps the whole main theorem holds (hybrid_model, Claims). A walk that comes to an event
+//! which is not built keeps its journal so far and says so. The calls are over any `Machine`. The definitions stand in specs/: Commands,
+//! Chain, Walking, Outcome.
 #![tactic(auto)]
 
 mod calls;

@@ -1,4 +1,6 @@
+pub mod Sound
+pub mod Shows
+pub mod Summed
 pub mod SameKeys
 pub mod Numbered
 pub mod BuiltEvents
-pub mod Sound

@@ -1,14 +1,18 @@
 //! The two kernels of a node in a state that they reach.
 //!
 //! Promises: a `Pair` is in a state that is coherent, lasts and is small (pair_core, Ready), and tells whether an event may happen in it
-//! (hybrid_model, Events). Where room was made for an event, it happens: the state after it is the definition's, and takes no memory. What
-//! isn't built yet of the events stands in specs/Built.
+//! (hybrid_model, Events), what a run asks of it (pair_offers, Inspect) and what a report says of it (run_summary, Summaries). Where room
+//! was made for an event, it happens: the state after it is the definition's, and takes no memory. What isn't built yet of the events
+//! stands in specs/Built.
 #![tactic(auto)]
 
+mod asked;
 mod booting;
 mod built;
 mod events;
+mod inspect;
 mod pair;
 mod room;
+mod summary;
 
 pub use pair::Pair;

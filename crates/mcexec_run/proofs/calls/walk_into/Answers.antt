@@ -11,16 +11,16 @@ returns-in-Err-clause-outcome g c =
 pub returns-in-Err-NoMemory-clause-outcome : goal.returns-in-Err-NoMemory-clause-outcome
 returns-in-Err-NoMemory-clause-outcome g c =
     ran_short g.M.Machine.built (with_frames c.args.p.now) c.args.p.now (g.M.Offers.pair c.in-Ok.machine) c.args.order c.args.form c.walk_journal.new.journal (g.S.Sink.taken c.args.sink.now) (g.S.Sink.taken c.args.sink.now)
-    c.in-Ok.ensures.value c.in-Ok.ensures.state c.walk_journal.ensures.front c.in-Ok.ensures.frames c.walk_journal.ensures.legal refl
+    c.in-Ok.ensures.value (λ journal legal. c.every_legal_journal.ensures c.args.p.now.job c.args.p.now.images journal c.requires.prepared legal) c.in-Ok.ensures.state c.walk_journal.ensures.front c.in-Ok.ensures.frames c.walk_journal.ensures.legal refl
 
 pub returns-in-Ok-walk_journal-clause-outcome : goal.returns-in-Ok-walk_journal-clause-outcome
 returns-in-Ok-walk_journal-clause-outcome g c =
     walk_outcome g.M.Machine.built (with_frames c.args.p.now) c.args.p.now (g.M.Offers.pair c.in-Ok.machine) (g.M.Offers.pair c.walk_journal.new.machine) c.args.order c.args.form c.walk_journal.new.journal c.as_slice.result.now c.show.result
-    (g.S.Sink.taken c.args.sink.now) (g.S.Sink.taken c.show.new.sink) c.in-Ok.ensures.value c.in-Ok.ensures.state c.walk_journal.ensures.front c.in-Ok-walk_journal.ensures.whole c.in-Ok.ensures.frames
+    (g.S.Sink.taken c.args.sink.now) (g.S.Sink.taken c.show.new.sink) c.in-Ok.ensures.value (λ journal legal. c.every_legal_journal.ensures c.args.p.now.job c.args.p.now.images journal c.requires.prepared legal) c.in-Ok.ensures.state c.walk_journal.ensures.front c.in-Ok-walk_journal.ensures.whole c.in-Ok.ensures.frames
     c.walk_journal.ensures.legal c.walk_journal.ensures.state c.in-Ok-walk_journal.ensures.over c.as_slice.ensures c.show.ensures.puts
 
 -- before an event that is not built
 pub returns-clause-outcome : goal.returns-clause-outcome
 returns-clause-outcome g c =
     unbuilt g.M.Machine.built (with_frames c.args.p.now) c.args.p.now (g.M.Offers.pair c.in-Ok.machine) c.args.order c.args.form c.walk_journal.new.journal (g.S.Sink.taken c.args.sink.now) (g.S.Sink.taken c.args.sink.now)
-    c.in-Ok.ensures.value c.in-Ok.ensures.state c.walk_journal.ensures.front c.in-Ok.ensures.frames c.walk_journal.ensures.legal (c.in-Err-NotBuilt.ensures.stops (ap Err c.in-Err-NotBuilt.field-0-is)) refl
+    c.in-Ok.ensures.value (λ journal legal. c.every_legal_journal.ensures c.args.p.now.job c.args.p.now.images journal c.requires.prepared legal) c.in-Ok.ensures.state c.walk_journal.ensures.front c.in-Ok.ensures.frames c.walk_journal.ensures.legal (c.in-Err-NotBuilt.ensures.stops (ap Err c.in-Err-NotBuilt.field-0-is)) refl

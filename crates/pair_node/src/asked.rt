@@ -1,0 +1,115 @@
+// What a run asks of the parts.
+ghost use Rattle.hybrid_model.specs.Journals.{runs_on};
+ghost use Rattle.hybrid_model.specs.Pairs.{side_of};
+ghost use Rattle.kernel_model.specs.Nodes.{Process as KernelProcess, ScriptLine as KernelLine, has_ended, is_living, ready_to_run};
+ghost use Rattle.key_rows.specs.Table.{key_from};
+ghost use Rattle.mck_word.specs.Maps.{at, each_row, some_row};
+ghost use Rattle.pair_core.specs.Shown.{pair_of};
+ghost use Rattle.pair_offers.specs.Seeking.{request_number, thread_number};
+ghost use Rattle.std.specs.List.{list_all, list_any};
+ghost use Rattle.std.specs.Prelude.{◌&&◌, ◌≡◌, ◌-◌, ◌<◌, ◌^◌, IfSome, option_map, slice_get};
+
+use file_calls::store::FileStore;
+use kernel_model::{Does, Life};
+use lwk_node::{Process, ScriptLine};
+use lwk_threads::Thread;
+use mck_word::{Pid, Req, Tid};
+use page_map::PageTable;
+use pair_core::Parts;
+
+/// The thread that acted last on the core.
+#[tactic(auto, unfolding(pair_core::specs::Shown::pair_of))]
+pub fn last<T: PageTable + Drop, F: FileStore>(parts: &Parts<T, F>, core: u32) -> Option<Tid>
+    ensures { option_map thread_number result ≡ at (pair_of T.rows F.files parts.now).last core }
+{
+    let t = parts.lwk.last.of(core)?;
+    Some(Tid(t))
+}
+
+/// The lowest live thread from there on.
+pub fn next_thread<T: PageTable + Drop, F: FileStore>(
+    parts: &Parts<T, F>,
+    from: Tid,
+) -> Option<Tid>
+    ensures value { option_map thread_number result ≡ key_from (pair_of T.rows F.files parts.now).node.threads from.0 }
+    ensures below { IfSome result (λ t. t.0 < 2 ^ 32 - 1) }
+{
+    // No thread is at or above the next number, which fits.
+    let _end = parts.lwk.node.next_number();
+    parts.lwk.node.threads.next(from)
+}
+
+/// The lowest request of the process from there on.
+pub fn next_request<T: PageTable + Drop, F: FileStore>(
+    parts: &Parts<T, F>,
+    p: Pid,
+    from: Req,
+) -> Option<Req>
+    ensures { option_map request_number result ≡ key_from (side_of (pair_of T.rows F.files parts.now) p.0).book.rows from.0 }
+{
+    match parts.sides.get(p.0 as u64) {
+        Some(side) => side.channel.book.next(from),
+        None => None,
+    }
+}
+
+fn index_at(lines: &[ScriptLine], place: usize) -> Option<u32>
+    ensures value { result ≡ option_map (λ l. l.index) (slice_get lines.now place) }
+    ensures below { IfSome result (λ _. place < 2 ^ 64 - 1) }
+{
+    let line = lines.get(place)?;
+    Some(line.index)
+}
+
+/// The index of the unsent line of the script at that place, from 0.
+pub fn unsent<T: PageTable + Drop, F: FileStore>(
+    parts: &Parts<T, F>,
+    place: usize,
+) -> Option<u32>
+    ensures value { result ≡ option_map (λ (l : KernelLine). l.index) (slice_get (pair_of T.rows F.files parts.now).node.unsent place) }
+    ensures below { IfSome result (λ _. place < 2 ^ 64 - 1) }
+{
+    index_at(&parts.lwk.node.unsent, place)
+}
+
+fn has_ended(life: Life) -> bool
+    ensures { result ≡ has_ended life }
+{
+    matches!(life, Life::Ended(_))
+}
+
+fn all_ended(rows: &[(u64, Process)]) -> bool
+    ensures { result ≡ list_all (λ e. has_ended e.1.life) rows.now }
+{
+    rows.iter().all(|row| has_ended(row.1.life))
+}
+
+/// Whether each process has ended.
+pub fn all_have_ended<T: PageTable + Drop, F: FileStore>(parts: &Parts<T, F>) -> bool
+    ensures { result ≡ each_row (λ p (x : KernelProcess). has_ended x.life) (pair_of T.rows F.files parts.now).node.processes }
+{
+    all_ended(parts.lwk.node.processes.rows())
+}
+
+#[tactic(auto, unfolding(pair_core::specs::Shown::pair_of))]
+fn runs_on<T: PageTable + Drop, F: FileStore>(parts: &Parts<T, F>, thread: &Thread<Does>) -> bool
+    ensures { result ≡ (ready_to_run thread.now.state && is_living (pair_of T.rows F.files parts.now).node thread.now.pid.0) }
+{
+    matches!(thread.state, Does::Ready) && parts.lwk.node.is_living(thread.pid)
+}
+
+fn some_of<T: PageTable + Drop, F: FileStore>(
+    parts: &Parts<T, F>,
+    rows: &[(u64, Thread<Does>)],
+) -> bool
+    ensures { result ≡ list_any (λ e. ready_to_run e.1.state && is_living (pair_of T.rows F.files parts.now).node e.1.pid.0) rows.now }
+{
+    rows.iter().any(|row| runs_on(parts, &row.1))
+}
+
+/// Whether a thread of a living process is ready to run.
+pub fn some_runs_on<T: PageTable + Drop, F: FileStore>(parts: &Parts<T, F>) -> bool
+    ensures { result ≡ some_row (runs_on (pair_of T.rows F.files parts.now)) (pair_of T.rows F.files parts.now).node.threads }
+{
+    some_of(parts, parts.lwk.node.threads.rows())
+}
