@@ -1,0 +1,17 @@
+mod EntryWords
+mod Entries
+mod Counting
+mod Keys
+mod Keeping
+mod LeafSet
+mod Grown
+mod Shrunk
+mod Walked
+mod Rooms
+mod LeafEffects
+mod GrownEffects
+mod ShrunkEffects
+mod Opening
+mod Making
+mod Giving
+mod Setting
