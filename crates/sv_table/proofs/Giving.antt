@@ -14,6 +14,16 @@ use Rattle.sv_table.specs.Trees.{IsOpenTree, Kept, Tree}
 use Rattle.sv_table.specs.Walks.{Nodes, above, child, entry_above, key_at, word, word_in}
 use Rattle.sv_table.specs.Words.{HasEntry, empty_node, entry_of_node, is_present, node_in}
 
+-- the entry that leads to a node is that node's
+leads_nowhere : (w key : ℕ) → w ≡ 0 → node_in w ≡ Some key → {P : Type 0} → P
+leads_nowhere w key e leads = let none : node_in w ≡ None = ap node_in e ∙ node_in-none in absurd (cc)
+
+leads_there : (w link key : ℕ) → w ≡ entry_of_node link → node_in w ≡ Some key → w ≡ entry_of_node key
+leads_there w link key e leads =
+    let other : node_in w ≡ Some link = ap node_in e ∙ node_in-entry link in
+    let same : link ≡ key = cc in
+    e ∙ ap entry_of_node same
+
 pub record Given (node node2 : Nodes) (parent place : ℕ) : Type 0 where
   pub tree : IsOpenTree node2 parent
   pub gone : key_at node2 place ≡ None
@@ -37,17 +47,11 @@ module _ (node node2 : Nodes) (parent place key : ℕ) (empty : List ℕ) (low :
       let k = kept_at node home key t.tree parent top.there in
       let below = key_at-below node parent place low high over in
       let placed : home key ≡ 512 * home parent + 1 + entry_above place = (let p = spot.placed in omega arith) in
+      let leads : node_in (slice_index k.0 (entry_above place)) ≡ Some key = sym (ap (λ o. node_in (word_in o (entry_above place))) k.1) ∙ sym below ∙ at in
       let linked : slice_index k.0 (entry_above place) ≡ entry_of_node key =
           elim (k.2.inner inner (entry_above place) (omega arith)) [
-            | inl zero ↦ absurd (
-                let here : node_in (slice_index k.0 (entry_above place)) ≡ Some key = sym (ap (λ o. node_in (word_in o (entry_above place))) k.1) ∙ sym below ∙ at in
-                let there : node_in (slice_index k.0 (entry_above place)) ≡ None = ap node_in zero ∙ node_in-none in
-                cc)
-            | inr link ↦
-                let here : node_in (slice_index k.0 (entry_above place)) ≡ Some key = sym (ap (λ o. node_in (word_in o (entry_above place))) k.1) ∙ sym below ∙ at in
-                let there : node_in (slice_index k.0 (entry_above place)) ≡ Some link.key = ap node_in link.is ∙ node_in-entry link.key in
-                let same : link.key ≡ key = cc in
-                link.is ∙ ap entry_of_node same
+            | inl zero ↦ leads_nowhere (slice_index k.0 (entry_above place)) key zero leads
+            | inr link ↦ leads_there (slice_index k.0 (entry_above place)) link.key key link.is leads
           ] in
       let now : node2 parent ≡ Some (slice_set k.0 (entry_above place) 0) = is ∙ ap (option_map (λ words. slice_set words (entry_above place) 0)) k.1 in
       let off = no_entry empty (t.tree.each key empty was).long none in

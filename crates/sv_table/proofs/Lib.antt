@@ -15,3 +15,9 @@ mod Opening
 mod Making
 mod Giving
 mod Setting
+mod Paging
+mod Lacking
+mod Looking
+mod Looked
+mod RootAlone
+mod TableRows

@@ -1,10 +1,11 @@
 -- The walk for a page goes over the node at its leaf's place; the rows of a table have what the walk finds.
 use Rattle.mck_flags.specs.declared.rights.Rights.{Rights}
 use Rattle.mck_word.specs.MapLaws.{at-none, at-set_or_cut, same_rows}
-use Rattle.mck_word.specs.Maps.{Map, and_then, at, change, cut, no_rows, put, set_or_cut}
+use Rattle.mck_word.specs.Maps.{Map, and_then, at, change, change_row, cut, no_rows, put, set_or_cut}
 use Rattle.mck_word.specs.declared.Frame.{Frame}
 use Rattle.std.proofs.Common.{◌≡◌, ◌≢◌, ℕ, zero, suc, ◌+◌, ◌*◌, ◌-◌, ◌/◌, ◌%◌, ◌^◌, ◌<◌, ◌≤◌, Bool, true, false, cond, eqb, ltb, Option, None, Some, refl, sym, ap, ◌∙◌, inl, inr, arith}
 use Rattle.std.proofs.lemmas.Bool.{cases_eq, cases_lt, eq-eqb, lt-ltb, le-ltb, ne_eqb}
+use Rattle.std.specs.Prelude.{IsTrue, is_some, option_map}
 use Rattle.sv_table.proofs.Keys.{key_at-root, key_at-step}
 use Rattle.sv_table.specs.Walks.{Nodes, above, child, entry_above, key_at, place_of_leaf, place_of_middle, rows_below, rows_of, walk, word}
 use Rattle.sv_table.specs.Words.{page_in}
@@ -102,3 +103,23 @@ walk-none node page l e = walk-leaf node page l ∙ ap (λ o. and_then o (λ lea
 
 pub walk-some : (node : Nodes) (page : ℕ) → page < 2 ^ 27 → (leaf : ℕ) → key_at node (place_of_leaf page) ≡ Some leaf → walk node page ≡ page_in (word node leaf (page % 512))
 walk-some node page l leaf e = walk-leaf node page l ∙ ap (λ o. and_then o (λ leaf. page_in (word node leaf (page % 512)))) e
+
+-- a page that has a row is below 2^27, and the walk finds it
+pub row-low : (node : Nodes) (page : ℕ) → IsTrue (is_some (at (rows_of node) page)) → page < 2 ^ 27
+row-low node page there = elim (cases_lt page (2 ^ 27)) [ inl low ↦ low | inr high ↦ absurd (let none = at-rows_high node page high in let off = ap is_some none in cc) ]
+
+pub row-found : (node : Nodes) (page : ℕ) → IsTrue (is_some (at (rows_of node) page)) → IsTrue (is_some (walk node page))
+row-found node page there = ap is_some (sym (at-rows_low node page (row-low node page there))) ∙ there
+
+-- a row that is changed
+pub rows-changed : (node node2 : Nodes) (page : ℕ) (f : Frame × Rights → Frame × Rights) → IsTrue (is_some (at (rows_of node) page)) → walk node2 page ≡ option_map f (walk node page)
+  → ((other : ℕ) → other < 2 ^ 27 → other ≢ page → walk node2 other ≡ walk node other) → rows_of node2 ≡ change (rows_of node) page f
+rows-changed node node2 page f there here others = by_row (walk node page) refl
+  where
+    low : page < 2 ^ 27
+    low = row-low node page there
+    by_row : (o : Option (Frame × Rights)) → walk node page ≡ o → rows_of node2 ≡ change (rows_of node) page f
+    by_row None e = absurd (let found = row-found node page there in let off = ap is_some e in cc)
+    by_row (Some row) e =
+        rows-set node node2 page (Some (f row)) low (here ∙ ap (option_map f) e) others
+        ∙ sym (ap (change_row (rows_of node) page f) (at-rows_low node page low ∙ e))

@@ -2,7 +2,7 @@
 use Rattle.mck_word.specs.declared.PageRange.{PageRange}
 use Rattle.page_map.specs.Counts.{count_to}
 use Rattle.slab.specs.Slab.{Slab, get, slab_len}
-use Rattle.std.specs.Prelude.{ℕ, ◌+◌, ◌-◌, ◌*◌, ◌≤◌, ◌&&◌, ◌||◌, Bool, IsTrue, cond, false, nat_lt, List, [], ◌∷◌, is_none, min, max}
+use Rattle.std.specs.Prelude.{ℕ, ◌+◌, ◌-◌, ◌*◌, ◌≤◌, ◌&&◌, ◌||◌, Bool, IsTrue, cond, false, nat_le, nat_lt, List, [], ◌∷◌, is_none, min, max}
 use Rattle.sv_table.specs.Walks.{Nodes, key_at}
 
 -- the first page of a place, and how many it has
@@ -23,6 +23,10 @@ is_touched (r ∷ rs) place = touched_by r place || is_touched rs place
 -- how many nodes on the paths of the ranges' pages are absent
 abbrev pub absent : Nodes → List PageRange → ℕ
 absent node rs = count_to (λ place. is_touched rs place && is_none (key_at node place)) 262657
+
+-- how many places from first up to end have no node
+abbrev pub absent_from : Nodes → ℕ → ℕ → ℕ
+absent_from node first end = count_to (λ place. nat_le first place && is_none (key_at node place)) end
 
 -- the slab has a place for each of them
 abbrev pub FitsIn : Slab (List ℕ) → List PageRange → Type 0

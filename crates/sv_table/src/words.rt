@@ -1,5 +1,5 @@
 //! Entries: words of 64 bits.
-ghost use Rattle.std.specs.Prelude.{◌≡◌, ◌<◌, ◌^◌, ◌⊎◌, ℕ};
+ghost use Rattle.std.specs.Prelude.{◌≡◌, ◌<◌, ◌^◌, Some};
 ghost use Rattle.sv_table.specs.Trees.{IsEntry};
 ghost use Rattle.sv_table.specs.Words.{entry_of_node, entry_of_page, is_present, node_in, page_in};
 
@@ -17,6 +17,7 @@ pub fn is_there(word: u64) -> bool
 pub fn page_entry(f: Frame, r: Rights) -> u64
     ensures value { result ≡ entry_of_page f r }
     ensures entry { IsEntry result }
+    ensures row { page_in result ≡ Some (f, r) }
 {
     1 + 2 * r.0 as u64 + 1024 * f.0 as u64
 }
