@@ -1,9 +1,8 @@
 -- What the words of entries say.
 use Rattle.mck_flags.specs.declared.rights.Rights.{Rights}
 use Rattle.mck_word.specs.declared.Frame.{Frame}
-use Rattle.std.proofs.Common.{◌≡◌, ◌≢◌, ℕ, ◌+◌, ◌*◌, ◌/◌, ◌%◌, ◌^◌, ◌<◌, Bool, true, false, cond, eqb, None, Some, refl, ap, ◌∙◌, sym, arith}
+use Rattle.std.proofs.Common.{◌≡◌, ℕ, ◌+◌, ◌*◌, ◌/◌, ◌%◌, ◌<◌, true, None, Some, refl, ap, arith}
 use Rattle.std.proofs.lemmas.Bool.{eq-eqb}
-use Rattle.sv_table.specs.Trees.{Row}
 use Rattle.sv_table.specs.Words.{entry_of_node, entry_of_page, is_present, node_in, page_in}
 
 pub is_present-node : (key : ℕ) → is_present (entry_of_node key) ≡ true

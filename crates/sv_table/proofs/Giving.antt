@@ -1,6 +1,5 @@
 -- A node given back where it has no entry.
-use Rattle.std.proofs.Common.{◌≡◌, ◌≢◌, ℕ, ◌+◌, ◌*◌, ◌^◌, ◌<◌, ◌≤◌, true, false, eqb, List, Option, None, Some, refl, sym, ap, subst, ◌∙◌, inl, inr, arith}
-use Rattle.std.proofs.lemmas.Bool.{cases_eq}
+use Rattle.std.proofs.Common.{◌≡◌, ◌≢◌, ℕ, ◌+◌, ◌*◌, ◌<◌, ◌≤◌, true, false, eqb, List, Option, None, Some, sym, ap, ◌∙◌, inl, inr, arith}
 use Rattle.std.specs.Prelude.{count_by, is_some, option_map, slice_index, slice_set}
 use Rattle.sv_table.proofs.Entries.{has_entry, no_entry}
 use Rattle.sv_table.proofs.EntryWords.{node_in-entry, node_in-none}
@@ -10,9 +9,9 @@ use Rattle.sv_table.proofs.Opening.{closed}
 use Rattle.sv_table.proofs.Shrunk.{shrunk}
 use Rattle.sv_table.proofs.ShrunkEffects.{key_goes, keys_stay, walks_stay}
 use Rattle.sv_table.specs.Changes.{SameWalks}
-use Rattle.sv_table.specs.Trees.{IsOpenTree, Kept, Tree}
-use Rattle.sv_table.specs.Walks.{Nodes, above, child, entry_above, key_at, word, word_in}
-use Rattle.sv_table.specs.Words.{HasEntry, empty_node, entry_of_node, is_present, node_in}
+use Rattle.sv_table.specs.Trees.{IsOpenTree}
+use Rattle.sv_table.specs.Walks.{Nodes, above, child, entry_above, key_at, word_in}
+use Rattle.sv_table.specs.Words.{entry_of_node, is_present, node_in}
 
 -- the entry that leads to a node is that node's
 leads_nowhere : (w key : ℕ) → w ≡ 0 → node_in w ≡ Some key → {P : Type 0} → P
@@ -24,6 +23,9 @@ leads_there w link key e leads =
     let same : link ≡ key = cc in
     e ∙ ap entry_of_node same
 
+mapped : (o p : Option (List ℕ)) (words : List ℕ) (i : ℕ) → p ≡ option_map (λ words. slice_set words i 0) o → o ≡ Some words → p ≡ Some (slice_set words i 0)
+mapped o p words i is at = is ∙ ap (option_map (λ words. slice_set words i 0)) at
+
 pub record Given (node node2 : Nodes) (parent place : ℕ) : Type 0 where
   pub tree : IsOpenTree node2 parent
   pub gone : key_at node2 place ≡ None
@@ -31,11 +33,10 @@ pub record Given (node node2 : Nodes) (parent place : ℕ) : Type 0 where
   pub walks : SameWalks node node2
 
 module _ (node node2 : Nodes) (parent place key : ℕ) (empty : List ℕ) (low : 1 ≤ place) (high : place < 262657)
-  (at : key_at node place ≡ Some key) (over : key_at node (above place) ≡ Some parent)
-  (was : node key ≡ Some empty) (none : eqb (count_by is_present empty) 0 ≡ true)
-  (gone : node2 key ≡ None) (is : node2 parent ≡ option_map (λ words. slice_set words (entry_above place) 0) (node parent))
-  (others : (j : ℕ) → j ≢ key → j ≢ parent → node2 j ≡ node j) where
-
+    (at : key_at node place ≡ Some key) (over : key_at node (above place) ≡ Some parent)
+    (was : node key ≡ Some empty) (none : eqb (count_by is_present empty) 0 ≡ true)
+    (gone : node2 key ≡ None) (is : node2 parent ≡ option_map (λ words. slice_set words (entry_above place) 0) (node parent))
+    (others : (j : ℕ) → j ≢ key → j ≢ parent → node2 j ≡ node j) where
   pub given : IsOpenTree node key → Given node node2 parent place
   unfolding child
   given t =
@@ -49,11 +50,11 @@ module _ (node node2 : Nodes) (parent place key : ℕ) (empty : List ℕ) (low :
       let placed : home key ≡ 512 * home parent + 1 + entry_above place = (let p = spot.placed in omega arith) in
       let leads : node_in (slice_index k.0 (entry_above place)) ≡ Some key = sym (ap (λ o. node_in (word_in o (entry_above place))) k.1) ∙ sym below ∙ at in
       let linked : slice_index k.0 (entry_above place) ≡ entry_of_node key =
-          elim (k.2.inner inner (entry_above place) (omega arith)) [
-            | inl zero ↦ leads_nowhere (slice_index k.0 (entry_above place)) key zero leads
-            | inr link ↦ leads_there (slice_index k.0 (entry_above place)) link.key key link.is leads
-          ] in
-      let now : node2 parent ≡ Some (slice_set k.0 (entry_above place) 0) = is ∙ ap (option_map (λ words. slice_set words (entry_above place) 0)) k.1 in
+      elim (k.2.inner inner (entry_above place) (omega arith)) [
+        | inl zero ↦ leads_nowhere (slice_index k.0 (entry_above place)) key zero leads
+        | inr link ↦ leads_there (slice_index k.0 (entry_above place)) link.key key link.is leads
+      ] in
+      let now = mapped (node parent) (node2 parent) k.0 (entry_above place) is k.1 in
       let off = no_entry empty (t.tree.each key empty was).long none in
       let tree2 = shrunk node node2 home parent key (entry_above place) k.0 empty t.tree was off k.1 inner (omega arith) linked placed gone now others in
       record {
@@ -69,8 +70,7 @@ not_given node parent key words at some t = closed node key parent words at (has
 
 -- in two steps: the node goes, and then its entry
 module _ (node mid : Nodes) (parent place key : ℕ) (low : 1 ≤ place) (high : place < 262657)
-  (at : key_at node place ≡ Some key) (over : key_at node (above place) ≡ Some parent) (tree : IsOpenTree node key) (rest : (j : ℕ) → j ≢ key → mid j ≡ node j) where
-
+    (at : key_at node place ≡ Some key) (over : key_at node (above place) ≡ Some parent) (tree : IsOpenTree node key) (rest : (j : ℕ) → j ≢ key → mid j ≡ node j) where
   parent_apart : parent ≢ key
   parent_apart e =
       let spot = key_at-is node tree.home key tree.tree place high key at in
@@ -84,7 +84,7 @@ module _ (node mid : Nodes) (parent place key : ℕ) (low : 1 ≤ place) (high :
   parent_there = ap is_some (rest parent parent_apart) ∙ met node key (above place) parent tree (omega arith) over
 
   pub given_in_two : (node2 : Nodes) (empty : List ℕ) → node key ≡ Some empty → eqb (count_by is_present empty) 0 ≡ true → mid key ≡ None
-    → node2 parent ≡ option_map (λ words. slice_set words (entry_above place) 0) (mid parent) → ((j : ℕ) → j ≢ parent → node2 j ≡ mid j) → Given node node2 parent place
+      → node2 parent ≡ option_map (λ words. slice_set words (entry_above place) 0) (mid parent) → ((j : ℕ) → j ≢ parent → node2 j ≡ mid j) → Given node node2 parent place
   given_in_two node2 empty was none gone set others =
       given node node2 parent place key empty low high at over was none
       (others key (λ e. parent_apart (sym e)) ∙ gone)

@@ -1,24 +1,23 @@
 -- An empty node below an entry that was absent: a table, but for that node.
-use Rattle.std.proofs.Common.{◌≡◌, ◌≢◌, ◌⊎◌, ℕ, ◌+◌, ◌*◌, ◌^◌, ◌<◌, ◌≤◌, Bool, true, cond, eqb, List, None, Some, refl, sym, ap, subst, ◌∙◌, inl, inr, length, arith}
+use Rattle.std.proofs.Common.{◌≡◌, ◌≢◌, ◌⊎◌, ℕ, ◌+◌, ◌*◌, ◌^◌, ◌<◌, true, cond, eqb, List, None, Some, refl, sym, ap, subst, ◌∙◌, inl, inr, arith}
 use Rattle.std.proofs.lemmas.Bool.{cases_eq, eq-eqb, ne_eqb}
 use Rattle.std.proofs.lemmas.List.{get_or-replicate, get_or-set_other, get_or-set_same, length-replicate, length-set}
 use Rattle.std.specs.Prelude.{is_some, slice_index, slice_set}
 use Rattle.sv_table.proofs.EntryWords.{is_present-node}
 use Rattle.sv_table.proofs.Keeping.{Keeps, above-kept, kept-kept, link-kept}
-use Rattle.sv_table.proofs.Keys.{some_from, some_of}
-use Rattle.sv_table.specs.Trees.{IsEntry, Kept, Link, Tree}
+use Rattle.sv_table.proofs.Keys.{some_from}
+use Rattle.sv_table.specs.Trees.{Kept, Link, Tree}
 use Rattle.sv_table.specs.Walks.{Nodes, word, word_in}
-use Rattle.sv_table.specs.Words.{HasEntry, empty_node, entry_of_node, is_present}
+use Rattle.sv_table.specs.Words.{empty_node, entry_of_node, is_present}
 
 -- the homes with one more
 abbrev pub home_with : (ℕ → ℕ) → ℕ → ℕ → ℕ → ℕ
 home_with home key place j = cond (eqb j key) place (home j)
 
 module _ (node node2 : Nodes) (home : ℕ → ℕ) (parent key i : ℕ) (words : List ℕ) (tree : Tree node home parent)
-  (absent : node key ≡ None) (was : node parent ≡ Some words) (inner : home parent < 513) (below : i < 512) (free : slice_index words i ≡ 0)
-  (small : key < 2 ^ 32) (new : node2 key ≡ Some empty_node) (is : node2 parent ≡ Some (slice_set words i (entry_of_node key)))
-  (others : (j : ℕ) → j ≢ key → j ≢ parent → node2 j ≡ node j) where
-
+    (absent : node key ≡ None) (was : node parent ≡ Some words) (inner : home parent < 513) (below : i < 512) (free : slice_index words i ≡ 0)
+    (small : key < 2 ^ 32) (new : node2 key ≡ Some empty_node) (is : node2 parent ≡ Some (slice_set words i (entry_of_node key)))
+    (others : (j : ℕ) → j ≢ key → j ≢ parent → node2 j ≡ node j) where
   place : ℕ
   place = 512 * home parent + 1 + i
 

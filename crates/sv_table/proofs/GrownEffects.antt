@@ -1,20 +1,19 @@
 -- What the walk finds after an empty node was put below an entry.
-use Rattle.std.proofs.Common.{◌≡◌, ◌≢◌, ℕ, ◌+◌, ◌*◌, ◌%◌, ◌^◌, ◌<◌, ◌≤◌, true, cond, eqb, List, None, Some, refl, sym, ap, ◌∙◌, inl, inr, arith}
+use Rattle.std.proofs.Common.{◌≡◌, ◌≢◌, ℕ, ◌%◌, ◌^◌, ◌<◌, true, cond, List, None, Some, refl, sym, ap, ◌∙◌, inl, inr, arith}
 use Rattle.std.proofs.lemmas.Bool.{cases_eq, eq-eqb, ne_eqb}
 use Rattle.std.proofs.lemmas.List.{get_or-replicate}
-use Rattle.std.specs.Prelude.{is_some, slice_index}
+use Rattle.std.specs.Prelude.{is_some}
 use Rattle.sv_table.proofs.EntryWords.{page_in-none}
 use Rattle.sv_table.proofs.Grown.{home_with}
-use Rattle.sv_table.proofs.Keys.{IsAt, key_at-home, key_at-is, key_at-same}
+use Rattle.sv_table.proofs.Keys.{key_at-home, key_at-is, key_at-same}
 use Rattle.sv_table.proofs.Walked.{walk-kept, walk-none, walk-some}
 use Rattle.sv_table.specs.Trees.{Tree}
-use Rattle.sv_table.specs.Walks.{Nodes, key_at, place_of_leaf, walk, word, word_in}
+use Rattle.sv_table.specs.Walks.{Nodes, key_at, place_of_leaf, walk, word_in}
 use Rattle.sv_table.specs.Words.{empty_node, page_in}
 
 module _ (node node2 : Nodes) (home : ℕ → ℕ) (parent key place : ℕ) (words2 : List ℕ) (tree : Tree node home parent) (tree2 : Tree node2 (home_with home key place) key)
-  (absent : node key ≡ None) (was : is_some (node parent) ≡ true) (inner : home parent < 513) (new : node2 key ≡ Some empty_node) (is : node2 parent ≡ Some words2)
-  (others : (j : ℕ) → j ≢ key → j ≢ parent → node2 j ≡ node j) where
-
+    (absent : node key ≡ None) (was : is_some (node parent) ≡ true) (inner : home parent < 513) (new : node2 key ≡ Some empty_node) (is : node2 parent ≡ Some words2)
+    (others : (j : ℕ) → j ≢ key → j ≢ parent → node2 j ≡ node j) where
   apart : (j : ℕ) → is_some (node j) ≡ true → j ≢ key
   apart j h e = let none = ap node e ∙ absent in let t = ap is_some none in absurd (cc)
 
@@ -35,8 +34,8 @@ module _ (node node2 : Nodes) (home : ℕ → ℕ) (parent key place : ℕ) (wor
 
   pub keys_stay : (q : ℕ) → q < 262657 → q ≢ place → key_at node2 q ≡ key_at node q
   keys_stay q l other = key_at-same node node2 home (home_with home key place) parent key tree tree2 q l
-    (λ k a. let o = apart k a.there in record { there = there k o ∙ a.there; placed = home-old k o ∙ a.placed })
-    (λ k a.
+      (λ k a. let o = apart k a.there in record { there = there k o ∙ a.there; placed = home-old k o ∙ a.placed })
+      (λ k a.
       let o : k ≢ key = (λ e. other (sym (sym home-new ∙ ap (home_with home key place) (sym e) ∙ a.placed))) in
       record { there = sym (there k o) ∙ a.there; placed = sym (home-old k o) ∙ a.placed })
 

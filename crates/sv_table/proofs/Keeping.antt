@@ -1,5 +1,5 @@
 -- What stays of a node where nodes elsewhere change.
-use Rattle.std.proofs.Common.{◌≡◌, ◌≢◌, ◌⊎◌, ℕ, ◌+◌, ◌*◌, ◌<◌, ◌≤◌, true, List, Some, refl, sym, ap, subst, ◌∙◌, inl, inr, arith}
+use Rattle.std.proofs.Common.{◌≡◌, ◌≢◌, ℕ, ◌+◌, ◌*◌, ◌<◌, true, List, refl, subst, ◌∙◌, inl, inr, arith}
 use Rattle.std.specs.Prelude.{is_some, slice_index}
 use Rattle.sv_table.specs.Trees.{Above, Kept, Link}
 use Rattle.sv_table.specs.Walks.{Nodes, word}
@@ -33,10 +33,10 @@ module _ (node node2 : Nodes) (home home2 : ℕ → ℕ) (Stays : ℕ → Type 0
 
   -- a node whose words stay keeps all, where the nodes that it leads to and the one above it stay
   pub kept-kept : (open_key open_key2 key : ℕ) (words : List ℕ) → Stays key → is_some (node key) ≡ true → Kept node home open_key key words
-    → ((place w : ℕ) (l : Link node home place w) → (i : ℕ) → i < 512 → w ≡ slice_index words i → place ≡ 512 * home key + 1 + i → Stays l.key)
-    → ((a : Above node home key) → Stays a.parent)
-    → (key ≢ 0 → key ≢ open_key2 → HasEntry words)
-    → Kept node2 home2 open_key2 key words
+      → ((place w : ℕ) (l : Link node home place w) → (i : ℕ) → i < 512 → w ≡ slice_index words i → place ≡ 512 * home key + 1 + i → Stays l.key)
+      → ((a : Above node home key) → Stays a.parent)
+      → (key ≢ 0 → key ≢ open_key2 → HasEntry words)
+      → Kept node2 home2 open_key2 key words
   kept-kept open_key open_key2 key words s h k below over full =
       let own : home2 key ≡ home key = keeps.homes key s h in
       let placed = k.placed in

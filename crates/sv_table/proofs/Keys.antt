@@ -1,12 +1,12 @@
 -- The node at a place, in a table: the key that the walk meets is the one whose home the place is.
 use Rattle.mck_word.specs.Maps.{and_then}
-use Rattle.std.proofs.Common.{◌≡◌, ◌≢◌, ◌⊎◌, ℕ, ◌+◌, ◌*◌, ◌-◌, ◌/◌, ◌%◌, ◌<◌, ◌≤◌, Bool, true, false, cond, List, Option, None, Some, refl, sym, ap, subst, ◌∙◌, inl, inr, arith}
-use Rattle.std.proofs.lemmas.Bool.{cases_eq, cases_lt, eq-eqb, ne_eqb, lt-ltb, le-ltb}
+use Rattle.std.proofs.Common.{◌≡◌, ℕ, ◌+◌, ◌*◌, ◌-◌, ◌<◌, ◌≤◌, true, List, Option, None, Some, refl, sym, ap, subst, ◌∙◌, inl, inr, arith}
+use Rattle.std.proofs.lemmas.Bool.{cases_eq, cases_lt, ne_eqb, lt-ltb, le-ltb}
 use Rattle.std.specs.Prelude.{is_some, slice_index}
 use Rattle.sv_table.proofs.EntryWords.{node_in-entry, node_in-none}
-use Rattle.sv_table.specs.Trees.{Above, IsOpenTree, Kept, Link, Tree}
+use Rattle.sv_table.specs.Trees.{Above, IsOpenTree, Kept, Tree}
 use Rattle.sv_table.specs.Walks.{Nodes, above, child, depth, down, entry_above, key_at, word, word_in}
-use Rattle.sv_table.specs.Words.{entry_of_node, node_in}
+use Rattle.sv_table.specs.Words.{node_in}
 
 pub some_of : {A : Type 0} (o : Option A) → is_some o ≡ true → (x : A) × (o ≡ Some x)
 some_of None h = absurd (cc)
@@ -76,7 +76,7 @@ module _ (node : Nodes) (home : ℕ → ℕ) (open_key : ℕ) (tree : Tree node 
       ]
 
   at-step : (place : ℕ) → 1 ≤ place → place < 262657 → ((key : ℕ) → key_at node (above place) ≡ Some key → IsAt node home (above place) key)
-    → (key : ℕ) → key_at node place ≡ Some key → IsAt node home place key
+      → (key : ℕ) → key_at node place ≡ Some key → IsAt node home place key
   at-step place a b up key e = by_parent (key_at node (above place)) refl
     where
       by_parent : (o : Option ℕ) → key_at node (above place) ≡ o → IsAt node home place key

@@ -1,6 +1,6 @@
 -- How many places have no node, counted from a first one on.
 use Rattle.page_map.specs.Counts.{count_to, count_to-le}
-use Rattle.std.proofs.Common.{◌≡◌, ℕ, zero, suc, ◌+◌, ◌<◌, ◌≤◌, Bool, true, false, cond, leb, Option, refl, ap, ◌∙◌, sym, inl, inr, arith}
+use Rattle.std.proofs.Common.{◌≡◌, ℕ, zero, suc, ◌+◌, ◌<◌, ◌≤◌, Bool, true, false, cond, Option, refl, ap, ◌∙◌, sym, inl, inr, arith}
 use Rattle.std.proofs.lemmas.Bool.{cases_lt, le-leb, lt-leb}
 use Rattle.std.specs.Prelude.{Some, None, is_none, is_some, nat_le, not, ◌&&◌}
 use Rattle.sv_table.specs.Room.{absent_from}

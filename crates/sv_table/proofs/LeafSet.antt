@@ -1,16 +1,15 @@
 -- A word put into a leaf leaves a table.
-use Rattle.std.proofs.Common.{◌≡◌, ◌≢◌, ◌⊎◌, ℕ, ◌+◌, ◌*◌, ◌<◌, ◌≤◌, true, List, Some, refl, sym, ap, subst, ◌∙◌, inl, inr, length, arith}
+use Rattle.std.proofs.Common.{◌≡◌, ◌≢◌, ℕ, ◌<◌, ◌≤◌, true, List, Some, refl, sym, ap, subst, ◌∙◌, inl, inr, length, arith}
 use Rattle.std.proofs.lemmas.Bool.{cases_eq}
 use Rattle.std.specs.Prelude.{is_some, slice_index}
 use Rattle.sv_table.proofs.Keeping.{Keeps, above-kept, kept-kept}
-use Rattle.sv_table.proofs.Keys.{some_from, some_of}
+use Rattle.sv_table.proofs.Keys.{some_from}
 use Rattle.sv_table.specs.Trees.{IsEntry, Kept, Tree}
-use Rattle.sv_table.specs.Walks.{Nodes, word, word_in}
-use Rattle.sv_table.specs.Words.{HasEntry, entry_of_node}
+use Rattle.sv_table.specs.Walks.{Nodes, word_in}
+use Rattle.sv_table.specs.Words.{HasEntry}
 
 module _ (node node2 : Nodes) (home : ℕ → ℕ) (open_key open_key2 key : ℕ) (words words2 : List ℕ) (tree : Tree node home open_key)
-  (was : node key ≡ Some words) (leaf : 513 ≤ home key) (is : node2 key ≡ Some words2) (others : (j : ℕ) → j ≢ key → node2 j ≡ node j) where
-
+    (was : node key ≡ Some words) (leaf : 513 ≤ home key) (is : node2 key ≡ Some words2) (others : (j : ℕ) → j ≢ key → node2 j ≡ node j) where
   stays : (j : ℕ) → is_some (node j) ≡ true → is_some (node2 j) ≡ true
   stays j h = elim (cases_eq j key) [
     | inl same ↦ ap (λ k. is_some (node2 k)) same ∙ ap is_some is
@@ -27,7 +26,7 @@ module _ (node node2 : Nodes) (home : ℕ → ℕ) (open_key open_key2 key : ℕ
   }
 
   pub leaf-set : length words2 ≡ 512 → ((i : ℕ) → i < 512 → IsEntry (slice_index words2 i)) → (key ≢ 0 → key ≢ open_key2 → HasEntry words2)
-    → ((j : ℕ) → j ≢ key → j ≢ open_key2 → j ≢ open_key) → Tree node2 home open_key2
+      → ((j : ℕ) → j ≢ key → j ≢ open_key2 → j ≢ open_key) → Tree node2 home open_key2
   leaf-set long entries full open_keys =
       record {
         root = stays 0 tree.root;

@@ -1,8 +1,8 @@
 -- How far the ranges were looked at.
 use Rattle.mck_word.specs.declared.PageRange.{PageRange}
 use Rattle.page_map.specs.Tables.{AreRanges, RiseFrom}
-use Rattle.std.proofs.Common.{◌≡◌, ℕ, ◌+◌, ◌-◌, ◌/◌, ◌^◌, ◌<◌, ◌≤◌, List, [], ◌∷◌, length, get_or, drop, refl, sym, ap, subst, ◌∙◌, arith}
-use Rattle.std.proofs.lemmas.List.{drop_all, drop_more}
+use Rattle.std.proofs.Common.{◌≡◌, ℕ, ◌+◌, ◌-◌, ◌/◌, ◌<◌, ◌≤◌, List, ◌∷◌, length, drop, ap, subst, ◌∙◌, arith}
+use Rattle.std.proofs.lemmas.List.{drop_all}
 use Rattle.std.specs.Prelude.{max}
 use Rattle.sv_table.proofs.Looking.{left, left-all, left-empty, left-more, left-none}
 use Rattle.sv_table.specs.Room.{absent, absent_from}
@@ -35,18 +35,18 @@ module _ (node : Nodes) (ranges : List PageRange) where
         record { counted = omega arith; rising = (r.hi, rise.3); low = l.low; high = l.high }
 
     pub looked-more : (a b n2 first_middle first_leaf middle2 leaf2 : ℕ) → r.lo < r.hi
-      → first_middle ≡ max middle (1 + r.lo / 262144) → a ≡ absent_from node first_middle (2 + (r.hi - 1) / 262144)
-      → first_leaf ≡ max leaf (513 + r.lo / 512) → b ≡ absent_from node first_leaf (514 + (r.hi - 1) / 512)
-      → n2 ≡ n + a + b → middle2 ≡ max middle (2 + (r.hi - 1) / 262144) → leaf2 ≡ max leaf (514 + (r.hi - 1) / 512)
-      → Looked node ranges (i + 1) n2 middle2 leaf2
+        → first_middle ≡ max middle (1 + r.lo / 262144) → a ≡ absent_from node first_middle (2 + (r.hi - 1) / 262144)
+        → first_leaf ≡ max leaf (513 + r.lo / 512) → b ≡ absent_from node first_leaf (514 + (r.hi - 1) / 512)
+        → n2 ≡ n + a + b → middle2 ≡ max middle (2 + (r.hi - 1) / 262144) → leaf2 ≡ max leaf (514 + (r.hi - 1) / 512)
+        → Looked node ranges (i + 1) n2 middle2 leaf2
     looked-more a b n2 first_middle first_leaf middle2 leaf2 some fm am fl bl total m2 l2 =
         let step : left node (drop i ranges) middle leaf ≡ absent_from node (max middle (1 + r.lo / 262144)) (2 + (r.hi - 1) / 262144) + absent_from node (max leaf (513 + r.lo / 512)) (514 + (r.hi - 1) / 512)
-              + left node (drop (i + 1) ranges) (max middle (2 + (r.hi - 1) / 262144)) (max leaf (514 + (r.hi - 1) / 512)) =
-            ap (λ rs. left node rs middle leaf) here ∙ left-more node r (drop (i + 1) ranges) middle leaf l.low l.high some rise.2 rise.3 in
+        + left node (drop (i + 1) ranges) (max middle (2 + (r.hi - 1) / 262144)) (max leaf (514 + (r.hi - 1) / 512)) =
+        ap (λ rs. left node rs middle leaf) here ∙ left-more node r (drop (i + 1) ranges) middle leaf l.low l.high some rise.2 rise.3 in
         let first : a ≡ absent_from node (max middle (1 + r.lo / 262144)) (2 + (r.hi - 1) / 262144) = am ∙ ap (λ f. absent_from node f (2 + (r.hi - 1) / 262144)) fm in
         let second : b ≡ absent_from node (max leaf (513 + r.lo / 512)) (514 + (r.hi - 1) / 512) = bl ∙ ap (λ f. absent_from node f (514 + (r.hi - 1) / 512)) fl in
         let rest : left node (drop (i + 1) ranges) middle2 leaf2 ≡ left node (drop (i + 1) ranges) (max middle (2 + (r.hi - 1) / 262144)) (max leaf (514 + (r.hi - 1) / 512)) =
-            ap (λ m. left node (drop (i + 1) ranges) m leaf2) m2 ∙ ap (λ m. left node (drop (i + 1) ranges) (max middle (2 + (r.hi - 1) / 262144)) m) l2 in
+        ap (λ m. left node (drop (i + 1) ranges) m leaf2) m2 ∙ ap (λ m. left node (drop (i + 1) ranges) (max middle (2 + (r.hi - 1) / 262144)) m) l2 in
         let counted = l.counted in
         let low = l.low in
         let high = l.high in

@@ -2,8 +2,8 @@
 use Rattle.mck_word.specs.declared.PageRange.{PageRange}
 use Rattle.page_map.specs.Counts.{count_to, count_to-le, count_to-same}
 use Rattle.page_map.specs.Tables.{RiseFrom}
-use Rattle.std.proofs.Common.{◌≡◌, ◌≢◌, ℕ, zero, suc, ◌+◌, ◌*◌, ◌-◌, ◌/◌, ◌^◌, ◌<◌, ◌≤◌, Bool, true, false, cond, not, leb, ltb, List, [], ◌∷◌, drop, refl, sym, ap, subst, ◌∙◌, inl, inr, arith}
-use Rattle.std.proofs.lemmas.Bool.{cases_Bool, cases_eq, cases_lt, le-leb, le-ltb, lt-leb, lt-ltb, ltb-true, or_cases}
+use Rattle.std.proofs.Common.{◌≡◌, ◌≢◌, ℕ, zero, suc, ◌+◌, ◌*◌, ◌-◌, ◌/◌, ◌^◌, ◌<◌, ◌≤◌, Bool, true, false, cond, not, leb, ltb, List, [], ◌∷◌, refl, sym, ap, subst, ◌∙◌, inl, inr, arith}
+use Rattle.std.proofs.lemmas.Bool.{cases_eq, cases_lt, le-leb, le-ltb, lt-leb, lt-ltb, ltb-true, or_cases}
 use Rattle.std.specs.Prelude.{is_none, ◌||◌, ◌&&◌, min, max}
 use Rattle.sv_table.proofs.Keys.{key_at-root}
 use Rattle.sv_table.proofs.Lacking.{count_none}
@@ -37,13 +37,14 @@ count_cut f e (suc n) l = elim (cases_eq e (suc n)) [
     all : (a b : Bool) → b ≡ true → a ≡ (a && b)
     all true b e = sym e
     all false b e = refl
+
     none : (a b : Bool) → b ≡ false → cond {A = ℕ} (a && b) 1 0 ≡ 0
     none true b e = ap (λ t. cond {A = ℕ} t 1 0) e
     none false b e = refl
 
 -- one place, at a level where the range's places go from first up to end
 level : (first end next q : ℕ) (touched rest lacks : Bool) → touched ≡ (leb first q && ltb q end) → (rest ≡ true → first ≤ q)
-  → cond {A = ℕ} ((touched || rest) && (not (ltb q next) && lacks)) 1 0
+    → cond {A = ℕ} ((touched || rest) && (not (ltb q next) && lacks)) 1 0
     ≡ cond ((leb (max next first) q && lacks) && ltb q end) 1 0 + cond (rest && (not (ltb q (max next end)) && lacks)) 1 0
 level first end next q touched rest lacks is rises = elim (cases_lt q next) [
   | inl seen ↦ rw (lt-ltb q next seen, lt-leb (max next first) q (omega arith), lt-ltb q (max next end) (omega arith)) (off (touched || rest) rest)
@@ -63,14 +64,17 @@ level first end next q touched rest lacks is rises = elim (cases_lt q next) [
     off true false = refl
     off false true = refl
     off false false = refl
+
     by_rest : (b : Bool) → (b ≡ true → ⊥) → cond {A = ℕ} (b && (true && lacks)) 1 0 ≡ cond false 1 0 + cond (b && (not (ltb q (max next end)) && lacks)) 1 0
     by_rest true h = absurd (h refl)
     by_rest false h = refl
+
     on : (b d : Bool) → cond {A = ℕ} (true && (true && d)) 1 0 ≡ cond (d && true) 1 0 + cond (b && (false && d)) 1 0
     on true true = refl
     on true false = refl
     on false true = refl
     on false false = refl
+
     over : (b d : Bool) → cond {A = ℕ} (b && (true && d)) 1 0 ≡ cond (d && false) 1 0 + cond (b && (true && d)) 1 0
     over true true = refl
     over true false = refl
@@ -121,7 +125,7 @@ module _ (node : Nodes) (r : PageRange) (rs : List PageRange) (middle leaf : ℕ
   rest_test q = left_test node rs (max middle (2 + (r.hi - 1) / 262144)) (max leaf (514 + (r.hi - 1) / 512)) q
 
   at_each : r.lo < r.hi → r.hi ≤ 2 ^ 27 → RiseFrom r.hi rs → (q : ℕ) → q < 262657
-    → cond {A = ℕ} (left_test node (r ∷ rs) middle leaf q) 1 0 ≡ cond (in_middle q) 1 0 + cond (in_leaf q) 1 0 + cond (rest_test q) 1 0
+      → cond {A = ℕ} (left_test node (r ∷ rs) middle leaf q) 1 0 ≡ cond (in_middle q) 1 0 + cond (in_leaf q) 1 0 + cond (rest_test q) 1 0
   unfolding in_middle in_leaf rest_test
   at_each some high rise q l = elim (cases_lt q 513) [
     | inl low ↦ elim (cases_eq q 0) [
@@ -129,10 +133,10 @@ module _ (node : Nodes) (r : PageRange) (rs : List PageRange) (middle leaf : ℕ
           let e : 0 ≡ q = sym first in
           subst (λ q. cond {A = ℕ} (left_test node (r ∷ rs) middle leaf q) 1 0 ≡ cond (in_middle q) 1 0 + cond (in_leaf q) 1 0 + cond (rest_test q) 1 0) e
           (rw (key_at-root node) (ends (touched_by r 0 || is_touched rs 0) (not (ltb 0 middle)) (leb (max middle (1 + r.lo / 262144)) 0) (ltb 0 (2 + (r.hi - 1) / 262144)) (leb (max leaf (513 + r.lo / 512)) 0) (ltb 0 (514 + (r.hi - 1) / 512))
-            (is_touched rs 0) (not (ltb 0 (max middle (2 + (r.hi - 1) / 262144))))))
+          (is_touched rs 0) (not (ltb 0 (max middle (2 + (r.hi - 1) / 262144))))))
       | inr more ↦
           let here = level (1 + r.lo / 262144) (2 + (r.hi - 1) / 262144) middle q (touched_by r q) (is_touched rs q) (is_none (key_at node q)) (touched_middle r q some (omega arith) low)
-              (λ t. let z = rises rs r.hi q rise t in let size = sizes_middle q low in omega arith) in
+          (λ t. let z = rises rs r.hi q rise t in let size = sizes_middle q low in omega arith) in
           joined (left_test node (r ∷ rs) middle leaf q) ((touched_by r q || is_touched rs q) && (not (ltb q middle) && is_none (key_at node q)))
           (in_middle q) (in_leaf q) (rest_test q) (is_touched rs q && (not (ltb q (max middle (2 + (r.hi - 1) / 262144))) && is_none (key_at node q)))
           (ap (λ s. (touched_by r q || is_touched rs q) && (not s && is_none (key_at node q))) (seen_low middle leaf q low))
@@ -142,7 +146,7 @@ module _ (node : Nodes) (r : PageRange) (rs : List PageRange) (middle leaf : ℕ
     ]
     | inr up ↦
         let here = level (513 + r.lo / 512) (514 + (r.hi - 1) / 512) leaf q (touched_by r q) (is_touched rs q) (is_none (key_at node q)) (touched_leaf r q some up)
-            (λ t. let z = rises rs r.hi q rise t in let size = sizes_leaf q up in omega arith) in
+        (λ t. let z = rises rs r.hi q rise t in let size = sizes_leaf q up in omega arith) in
         swapped (left_test node (r ∷ rs) middle leaf q) ((touched_by r q || is_touched rs q) && (not (ltb q leaf) && is_none (key_at node q)))
         (in_middle q) (in_leaf q) (rest_test q) (is_touched rs q && (not (ltb q (max leaf (514 + (r.hi - 1) / 512))) && is_none (key_at node q)))
         (ap (λ s. (touched_by r q || is_touched rs q) && (not s && is_none (key_at node q))) (seen_high middle leaf q up))
@@ -154,30 +158,37 @@ module _ (node : Nodes) (r : PageRange) (rs : List PageRange) (middle leaf : ℕ
       false_right : (x : Bool) → (x && false) ≡ false
       false_right true = refl
       false_right false = refl
+
       seen_low : (m n q : ℕ) → q < 513 → is_seen m n q ≡ ltb q m
       seen_low m n q low = ap (λ b. cond b (ltb q m) (ltb q n)) (lt-ltb q 513 low)
+
       seen_high : (m n q : ℕ) → 513 ≤ q → is_seen m n q ≡ ltb q n
       seen_high m n q up = ap (λ b. cond b (ltb q m) (ltb q n)) (le-ltb q 513 up)
+
       joined : (f f2 g h k k2 : Bool) → f ≡ f2 → cond {A = ℕ} f2 1 0 ≡ cond g 1 0 + cond k2 1 0 → k ≡ k2 → h ≡ false → cond {A = ℕ} f 1 0 ≡ cond g 1 0 + cond h 1 0 + cond k 1 0
       joined f f2 g h k k2 a b c d = rw (a, c, d) (omega (arith, b))
+
       swapped : (f f2 g h k k2 : Bool) → f ≡ f2 → cond {A = ℕ} f2 1 0 ≡ cond h 1 0 + cond k2 1 0 → k ≡ k2 → g ≡ false → cond {A = ℕ} f 1 0 ≡ cond g 1 0 + cond h 1 0 + cond k 1 0
       swapped f f2 g h k k2 a b c d = rw (a, c, d) (omega (arith, b))
+
       ends : (t s m e n f u v : Bool) → cond {A = ℕ} (t && (s && false)) 1 0 ≡ cond ((m && false) && e) 1 0 + cond ((n && false) && f) 1 0 + cond (u && (v && false)) 1 0
       ends t s m e n f u v = rw (false_right s, false_right t, false_right m, false_right n, false_right v, false_right u) refl
+
       sizes_middle : (q : ℕ) → q < 513 → first_page q + page_count q ≡ (q - 1) * 262144 + 262144
       sizes_middle q low = rw (lt-ltb q 513 low) refl
+
       sizes_leaf : (q : ℕ) → 513 ≤ q → first_page q + page_count q ≡ (q - 513) * 512 + 512
       sizes_leaf q up = rw (le-ltb q 513 up) refl
 
   -- a range that is looked at: what it lacks, and what is left
   pub left-more : r.lo < r.hi → r.hi ≤ 2 ^ 27 → RiseFrom r.hi rs
-    → left node (r ∷ rs) middle leaf ≡ absent_from node (max middle (1 + r.lo / 262144)) (2 + (r.hi - 1) / 262144) + absent_from node (max leaf (513 + r.lo / 512)) (514 + (r.hi - 1) / 512)
+      → left node (r ∷ rs) middle leaf ≡ absent_from node (max middle (1 + r.lo / 262144)) (2 + (r.hi - 1) / 262144) + absent_from node (max leaf (513 + r.lo / 512)) (514 + (r.hi - 1) / 512)
       + left node rs (max middle (2 + (r.hi - 1) / 262144)) (max leaf (514 + (r.hi - 1) / 512))
   unfolding in_middle in_leaf rest_test
   left-more some high rise =
       count_three (λ q. left_test node (r ∷ rs) middle leaf q) in_middle in_leaf rest_test 262657 (λ q l. at_each some high rise q l)
       ∙ parts (left node rs (max middle (2 + (r.hi - 1) / 262144)) (max leaf (514 + (r.hi - 1) / 512))) (sym (count_cut (λ q. leb (max middle (1 + r.lo / 262144)) q && is_none (key_at node q)) (2 + (r.hi - 1) / 262144) 262657 (omega arith)))
-        (sym (count_cut (λ q. leb (max leaf (513 + r.lo / 512)) q && is_none (key_at node q)) (514 + (r.hi - 1) / 512) 262657 (omega arith)))
+      (sym (count_cut (λ q. leb (max leaf (513 + r.lo / 512)) q && is_none (key_at node q)) (514 + (r.hi - 1) / 512) 262657 (omega arith)))
     where
       parts : (z : ℕ) {x y x2 y2 : ℕ} → x ≡ x2 → y ≡ y2 → x + y + z ≡ x2 + y2 + z
       parts z e f = rw (e, f) refl
@@ -202,6 +213,7 @@ module _ (node : Nodes) where
         | inl low ↦ ap (λ b. cond b (ltb q 1) (ltb q 513)) (lt-ltb q 513 low) ∙ le-ltb q 1 (omega arith)
         | inr up ↦ ap (λ b. cond b (ltb q 1) (ltb q 513)) (le-ltb q 513 up) ∙ le-ltb q 513 up
       ]
+
       both : (x y : Bool) → (x && (y && false)) ≡ (x && false)
       both true true = refl
       both true false = refl

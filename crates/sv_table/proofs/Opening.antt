@@ -1,9 +1,9 @@
 -- Which node of a table may be without an entry.
-use Rattle.std.proofs.Common.{◌≡◌, ◌≢◌, ℕ, ◌<◌, true, cond, List, Option, None, Some, refl, sym, ap, subst, ◌∙◌, inl, inr, ◌/◌}
+use Rattle.std.proofs.Common.{◌≡◌, ◌≢◌, ℕ, ◌<◌, true, cond, List, None, Some, sym, ap, subst, ◌∙◌, inl, inr, ◌/◌}
 use Rattle.std.proofs.lemmas.Bool.{cases_Bool, cases_eq}
 use Rattle.std.specs.Prelude.{slice_index}
 use Rattle.sv_table.proofs.Keys.{kept_at, key_at-is}
-use Rattle.sv_table.specs.Trees.{IsOpenTree, Kept, Tree}
+use Rattle.sv_table.specs.Trees.{IsOpenTree, Kept}
 use Rattle.sv_table.specs.Walks.{Nodes, child, key_at, word_in}
 use Rattle.sv_table.specs.Words.{HasEntry, is_present, node_in}
 
@@ -16,16 +16,16 @@ closed node key other words at full t =
         root = t.tree.root;
         top = t.tree.top;
         each = λ j ws e.
-          let k = t.tree.each j ws e in
-          record {
-            small = k.small;
-            placed = k.placed;
-            long = k.long;
-            inner = k.inner;
-            outer = k.outer;
-            up = k.up;
-            full = λ a b. by_key j ws e k a;
-          };
+            let k = t.tree.each j ws e in
+            record {
+              small = k.small;
+              placed = k.placed;
+              long = k.long;
+              inner = k.inner;
+              outer = k.outer;
+              up = k.up;
+              full = λ a b. by_key j ws e k a;
+            };
       };
     }
   where
@@ -44,16 +44,16 @@ opened node key t =
         root = t.tree.root;
         top = t.tree.top;
         each = λ j ws e.
-          let k = t.tree.each j ws e in
-          record {
-            small = k.small;
-            placed = k.placed;
-            long = k.long;
-            inner = k.inner;
-            outer = k.outer;
-            up = k.up;
-            full = λ a b. k.full a a;
-          };
+            let k = t.tree.each j ws e in
+            record {
+              small = k.small;
+              placed = k.placed;
+              long = k.long;
+              inner = k.inner;
+              outer = k.outer;
+              up = k.up;
+              full = λ a b. k.full a a;
+            };
       };
     }
 

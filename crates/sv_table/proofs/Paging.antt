@@ -4,9 +4,9 @@ use Rattle.mck_word.specs.Maps.{and_then}
 use Rattle.mck_word.specs.Pages.{in_range, in_ranges}
 use Rattle.mck_word.specs.declared.Frame.{Frame}
 use Rattle.mck_word.specs.declared.PageRange.{PageRange}
-use Rattle.std.proofs.Common.{◌≡◌, ◌≢◌, ℕ, ◌+◌, ◌*◌, ◌-◌, ◌/◌, ◌%◌, ◌^◌, ◌<◌, ◌≤◌, Bool, true, false, cond, leb, ltb, List, [], ◌∷◌, Option, None, Some, refl, sym, ap, subst, ◌∙◌, inl, inr, arith}
-use Rattle.std.proofs.lemmas.Bool.{and_parts, cases_lt, leb-true, lt-ltb, le-ltb, ltb-true, or_cases, or_left, or_right}
-use Rattle.std.specs.Prelude.{IsTrue, is_some, slice_index, ◌||◌, ◌&&◌, min, max}
+use Rattle.std.proofs.Common.{◌≡◌, ℕ, ◌+◌, ◌*◌, ◌-◌, ◌/◌, ◌%◌, ◌^◌, ◌<◌, ◌≤◌, Bool, true, false, cond, leb, ltb, List, [], ◌∷◌, None, Some, sym, ap, ◌∙◌, inl, inr, arith}
+use Rattle.std.proofs.lemmas.Bool.{and_parts, leb-true, lt-ltb, le-ltb, ltb-true, or_cases, or_left, or_right}
+use Rattle.std.specs.Prelude.{IsTrue, is_some, slice_index, min, max}
 use Rattle.sv_table.proofs.Keys.{key_at-is}
 use Rattle.sv_table.proofs.Walked.{key_at-leaf, key_at-middle, walk-some}
 use Rattle.sv_table.specs.Room.{is_touched, touched_by}

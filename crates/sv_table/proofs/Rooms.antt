@@ -1,7 +1,7 @@
 -- How many nodes are absent, where one comes or goes.
 use Rattle.mck_word.specs.declared.PageRange.{PageRange}
-use Rattle.page_map.specs.Counts.{count_to, count_to-same}
-use Rattle.std.proofs.Common.{◌≡◌, ◌≢◌, ℕ, ◌+◌, ◌<◌, ◌≤◌, Bool, true, false, List, None, Some, refl, sym, ap, ◌∙◌, arith}
+use Rattle.page_map.specs.Counts.{count_to-same}
+use Rattle.std.proofs.Common.{◌≡◌, ◌≢◌, ℕ, ◌+◌, ◌<◌, ◌≤◌, Bool, true, false, List, None, Some, refl, sym, ap, ◌∙◌}
 use Rattle.std.specs.Prelude.{IsTrue, is_none, ◌&&◌}
 use Rattle.sv_table.proofs.Counting.{at_least_one, one_less, one_more}
 use Rattle.sv_table.specs.Room.{absent, is_touched}
@@ -16,7 +16,7 @@ module _ (node node2 : Nodes) (rs : List PageRange) where
   absent-same same = count_to-same (λ q. is_touched rs q && is_none (key_at node2 q)) (λ q. is_touched rs q && is_none (key_at node q)) 262657 (λ q l. ap (λ o. is_touched rs q && is_none o) (same q l))
 
   pub absent-less : (place key : ℕ) → place < 262657 → IsTrue (is_touched rs place) → key_at node place ≡ None → key_at node2 place ≡ Some key
-    → ((q : ℕ) → q < 262657 → q ≢ place → key_at node2 q ≡ key_at node q) → absent node rs ≡ absent node2 rs + 1
+      → ((q : ℕ) → q < 262657 → q ≢ place → key_at node2 q ≡ key_at node q) → absent node rs ≡ absent node2 rs + 1
   absent-less place key l there none some same =
       one_less (λ q. is_touched rs q && is_none (key_at node q)) (λ q. is_touched rs q && is_none (key_at node2 q)) place 262657 l
       (rw (there, none) refl)

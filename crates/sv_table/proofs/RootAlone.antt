@@ -1,13 +1,13 @@
 -- A table of the root alone: nothing is found.
 use Rattle.mck_word.specs.MapLaws.{at-none, same_rows}
-use Rattle.mck_word.specs.Maps.{and_then, at, no_rows}
-use Rattle.std.proofs.Common.{◌≡◌, ◌≢◌, ℕ, ◌+◌, ◌/◌, ◌%◌, ◌^◌, ◌<◌, ◌≤◌, List, None, Some, refl, sym, ap, subst, ◌∙◌, inl, inr, arith}
+use Rattle.mck_word.specs.Maps.{and_then, no_rows}
+use Rattle.std.proofs.Common.{◌≡◌, ◌≢◌, ℕ, ◌/◌, ◌%◌, ◌^◌, List, None, Some, refl, sym, ap, subst, ◌∙◌, inl, inr, arith}
 use Rattle.std.proofs.lemmas.Bool.{cases_eq, cases_lt}
 use Rattle.std.proofs.lemmas.List.{get_or-replicate, length-replicate}
 use Rattle.std.specs.Prelude.{is_some, slice_index}
 use Rattle.sv_table.proofs.EntryWords.{node_in-none}
 use Rattle.sv_table.proofs.Walked.{at-rows_high, at-rows_low}
-use Rattle.sv_table.specs.Trees.{IsOpenTree, Kept, Tree}
+use Rattle.sv_table.specs.Trees.{IsOpenTree, Kept}
 use Rattle.sv_table.specs.Walks.{Nodes, child, rows_of, walk, word, word_in}
 use Rattle.sv_table.specs.Words.{empty_node, node_in, page_in}
 
@@ -45,7 +45,7 @@ module _ (node : Nodes) (words : List ℕ) (is : words ≡ empty_node) (root : n
     | inl low ↦
         at-rows_low node page low
         ∙ ap (λ o. and_then o (λ middle. and_then (child node middle (page / 512 % 512)) (λ leaf. page_in (word node leaf (page % 512)))))
-          (ap (λ o. node_in (word_in o (page / 262144))) root ∙ ap (λ ws. node_in (slice_index ws (page / 262144))) is ∙ ap node_in (get_or-replicate 512 (page / 262144) 0 0 (omega arith)) ∙ node_in-none)
+        (ap (λ o. node_in (word_in o (page / 262144))) root ∙ ap (λ ws. node_in (slice_index ws (page / 262144))) is ∙ ap node_in (get_or-replicate 512 (page / 262144) 0 0 (omega arith)) ∙ node_in-none)
         ∙ sym (at-none page)
     | inr high ↦ at-rows_high node page high ∙ sym (at-none page)
   ])

@@ -1,17 +1,15 @@
 -- A word of a leaf is set.
-use Rattle.mck_flags.specs.declared.rights.Rights.{Rights}
-use Rattle.mck_word.specs.declared.Frame.{Frame}
-use Rattle.std.proofs.Common.{◌≡◌, ◌≢◌, ℕ, ◌+◌, ◌%◌, ◌^◌, ◌<◌, ◌≤◌, true, List, Option, None, Some, refl, sym, ap, subst, ◌∙◌, inl, inr, arith}
+use Rattle.std.proofs.Common.{◌≡◌, ◌≢◌, ℕ, ◌%◌, ◌^◌, ◌<◌, ◌≤◌, true, Some, refl, sym, ap, subst, ◌∙◌, inl, inr, arith}
 use Rattle.std.proofs.lemmas.Bool.{cases_eq}
 use Rattle.std.proofs.lemmas.List.{get_or-set_other, get_or-set_same, length-set}
-use Rattle.std.specs.Prelude.{is_some, option_map, slice_index, slice_set}
+use Rattle.std.specs.Prelude.{option_map, slice_index, slice_set}
 use Rattle.sv_table.proofs.Keys.{key_at-is, kept_at}
 use Rattle.sv_table.proofs.LeafEffects.{keys_stay, leaf_at, leaf_others}
 use Rattle.sv_table.proofs.LeafSet.{leaf-set}
 use Rattle.sv_table.proofs.Opening.{closed}
 use Rattle.sv_table.specs.Trees.{IsEntry, IsOpenTree}
 use Rattle.sv_table.specs.Walks.{Nodes, key_at, place_of_leaf, walk}
-use Rattle.sv_table.specs.Words.{HasEntry, is_present, page_in}
+use Rattle.sv_table.specs.Words.{is_present, page_in}
 
 pub record LeafChange (node node2 : Nodes) (leaf page w : ℕ) : Type 0 where
   pub tree : IsOpenTree node2 leaf
@@ -21,8 +19,7 @@ pub record LeafChange (node node2 : Nodes) (leaf page w : ℕ) : Type 0 where
   pub others : (other : ℕ) → other < 2 ^ 27 → other ≢ page → walk node2 other ≡ walk node other
 
 module _ (node node2 : Nodes) (leaf page w : ℕ) (low : page < 2 ^ 27) (at : key_at node (place_of_leaf page) ≡ Some leaf) (entry : IsEntry w)
-  (is : node2 leaf ≡ option_map (λ words. slice_set words (page % 512) w) (node leaf)) (others : (j : ℕ) → j ≢ leaf → node2 j ≡ node j) where
-
+    (is : node2 leaf ≡ option_map (λ words. slice_set words (page % 512) w) (node leaf)) (others : (j : ℕ) → j ≢ leaf → node2 j ≡ node j) where
   pub set : IsOpenTree node leaf → LeafChange node node2 leaf page w
   set t =
       let home = t.home in
@@ -36,13 +33,13 @@ module _ (node node2 : Nodes) (leaf page w : ℕ) (low : page < 2 ^ 27) (at : ke
       let rest : (i : ℕ) → i ≢ page % 512 → slice_index (slice_set k.0 (page % 512) w) i ≡ slice_index k.0 i = λ i o. get_or-set_other k.0 (page % 512) i w 0 o in
       let high : 513 ≤ home leaf = omega arith in
       let tree2 = leaf-set node node2 home leaf leaf leaf k.0 words2 t.tree k.1 high now others
-          (length-set k.0 (page % 512) w ∙ k.2.long)
-          (λ i l. elim (cases_eq i (page % 512)) [
-            | inl same ↦ subst IsEntry (sym here ∙ ap (slice_index (slice_set k.0 (page % 512) w)) (sym same)) entry
-            | inr other ↦ subst IsEntry (sym (rest i other)) (k.2.outer high i l)
-          ])
-          (λ _ o. absurd (o refl))
-          (λ j o _. o) in
+      (length-set k.0 (page % 512) w ∙ k.2.long)
+      (λ i l. elim (cases_eq i (page % 512)) [
+        | inl same ↦ subst IsEntry (sym here ∙ ap (slice_index (slice_set k.0 (page % 512) w)) (sym same)) entry
+        | inr other ↦ subst IsEntry (sym (rest i other)) (k.2.outer high i l)
+      ])
+      (λ _ o. absurd (o refl))
+      (λ j o _. o) in
       let open_tree : IsOpenTree node2 leaf = record { home = home; tree = tree2 } in
       record {
         tree = open_tree;

@@ -1,5 +1,5 @@
 -- A node without an entry is given back: a table, but for the node above it.
-use Rattle.std.proofs.Common.{◌≡◌, ◌≢◌, ◌⊎◌, ℕ, ◌+◌, ◌*◌, ◌<◌, ◌≤◌, true, false, List, None, Some, refl, sym, ap, subst, ◌∙◌, inl, inr, length, arith}
+use Rattle.std.proofs.Common.{◌≡◌, ◌≢◌, ◌⊎◌, ℕ, ◌+◌, ◌*◌, ◌<◌, false, List, None, Some, refl, sym, ap, subst, ◌∙◌, inl, inr, arith}
 use Rattle.std.proofs.lemmas.Bool.{cases_eq}
 use Rattle.std.proofs.lemmas.List.{get_or-set_other, get_or-set_same, length-set}
 use Rattle.std.specs.Prelude.{is_some, slice_index, slice_set}
@@ -11,10 +11,9 @@ use Rattle.sv_table.specs.Walks.{Nodes, word, word_in}
 use Rattle.sv_table.specs.Words.{entry_of_node, is_present}
 
 module _ (node node2 : Nodes) (home : ℕ → ℕ) (parent key i : ℕ) (words empty : List ℕ) (tree : Tree node home key)
-  (at : node key ≡ Some empty) (none : (q : ℕ) → q < 512 → is_present (slice_index empty q) ≡ false)
-  (was : node parent ≡ Some words) (inner : home parent < 513) (below : i < 512) (linked : slice_index words i ≡ entry_of_node key) (placed : home key ≡ 512 * home parent + 1 + i)
-  (gone : node2 key ≡ None) (is : node2 parent ≡ Some (slice_set words i 0)) (others : (j : ℕ) → j ≢ key → j ≢ parent → node2 j ≡ node j) where
-
+    (at : node key ≡ Some empty) (none : (q : ℕ) → q < 512 → is_present (slice_index empty q) ≡ false)
+    (was : node parent ≡ Some words) (inner : home parent < 513) (below : i < 512) (linked : slice_index words i ≡ entry_of_node key) (placed : home key ≡ 512 * home parent + 1 + i)
+    (gone : node2 key ≡ None) (is : node2 parent ≡ Some (slice_set words i 0)) (others : (j : ℕ) → j ≢ key → j ≢ parent → node2 j ≡ node j) where
   not_root : key ≢ 0
   not_root e = let top = tree.top in let same = ap home e in absurd (omega arith)
 
@@ -62,9 +61,9 @@ module _ (node node2 : Nodes) (home : ℕ → ℕ) (parent key i : ℕ) (words e
                 let k = tree.each j ws old in
                 kept-kept node node2 home home (λ j. j ≢ key) keeps key parent j ws other (some_from (node j) ws old) k
                 (λ place w l q m _ at_place f.
-                    let up = l.placed in
-                    let same = ap home f in
-                    far (home-one node home key tree j parent (some_from (node j) ws old) (some_from (node parent) words was) (omega arith)))
+                let up = l.placed in
+                let same = ap home f in
+                far (home-one node home key tree j parent (some_from (node j) ws old) (some_from (node parent) words was) (omega arith)))
                 (λ a. not_above j a)
                 (λ a b. k.full a other)
           ]

@@ -27,5 +27,5 @@ module _ (inside whole : Slab (List ℕ)) (same : inside ≡ whole) (page : ℕ)
   row_gone after none others = rows-set (get inside) (get after) page None low_inside none others ∙ ap (λ s. cut (rows_of (get s)) page) same
 
   pub row_changed : (after : Slab (List ℕ)) (r : Rights) → walk (get after) page ≡ option_map (λ w. (w.0, r)) (walk (get inside) page)
-    → ((other : ℕ) → other < 2 ^ 27 → other ≢ page → walk (get after) other ≡ walk (get inside) other) → rows_of (get after) ≡ change (rows_of (get whole)) page (λ w. (w.0, r))
+      → ((other : ℕ) → other < 2 ^ 27 → other ≢ page → walk (get after) other ≡ walk (get inside) other) → rows_of (get after) ≡ change (rows_of (get whole)) page (λ w. (w.0, r))
   row_changed after r here others = rows-changed (get inside) (get after) page (λ w. (w.0, r)) there_inside here others ∙ ap (λ s. change (rows_of (get s)) page (λ w. (w.0, r))) same

@@ -1,9 +1,9 @@
 -- The walk for a page goes over the node at its leaf's place; the rows of a table have what the walk finds.
 use Rattle.mck_flags.specs.declared.rights.Rights.{Rights}
 use Rattle.mck_word.specs.MapLaws.{at-none, at-set_or_cut, same_rows}
-use Rattle.mck_word.specs.Maps.{Map, and_then, at, change, change_row, cut, no_rows, put, set_or_cut}
+use Rattle.mck_word.specs.Maps.{and_then, at, change, change_row, set_or_cut}
 use Rattle.mck_word.specs.declared.Frame.{Frame}
-use Rattle.std.proofs.Common.{◌≡◌, ◌≢◌, ℕ, zero, suc, ◌+◌, ◌*◌, ◌-◌, ◌/◌, ◌%◌, ◌^◌, ◌<◌, ◌≤◌, Bool, true, false, cond, eqb, ltb, Option, None, Some, refl, sym, ap, ◌∙◌, inl, inr, arith}
+use Rattle.std.proofs.Common.{◌≡◌, ◌≢◌, ℕ, zero, suc, ◌/◌, ◌%◌, ◌^◌, ◌<◌, ◌≤◌, cond, ltb, Option, None, Some, refl, sym, ap, ◌∙◌, inl, inr, arith}
 use Rattle.std.proofs.lemmas.Bool.{cases_eq, cases_lt, eq-eqb, lt-ltb, le-ltb, ne_eqb}
 use Rattle.std.specs.Prelude.{IsTrue, is_some, option_map}
 use Rattle.sv_table.proofs.Keys.{key_at-root, key_at-step}
@@ -87,7 +87,7 @@ rows-set node node2 page o l here others = same_rows (rows_of node2) (set_or_cut
 
 -- a page whose leaf stays, with its word there
 pub walk-kept : (node node2 : Nodes) (page : ℕ) → page < 2 ^ 27 → key_at node2 (place_of_leaf page) ≡ key_at node (place_of_leaf page)
-  → ((leaf : ℕ) → key_at node (place_of_leaf page) ≡ Some leaf → page_in (word node2 leaf (page % 512)) ≡ page_in (word node leaf (page % 512))) → walk node2 page ≡ walk node page
+    → ((leaf : ℕ) → key_at node (place_of_leaf page) ≡ Some leaf → page_in (word node2 leaf (page % 512)) ≡ page_in (word node leaf (page % 512))) → walk node2 page ≡ walk node page
 walk-kept node node2 page l same words =
     walk-leaf node2 page l
     ∙ ap (λ o. and_then o (λ leaf. page_in (word node2 leaf (page % 512)))) same
@@ -113,11 +113,12 @@ row-found node page there = ap is_some (sym (at-rows_low node page (row-low node
 
 -- a row that is changed
 pub rows-changed : (node node2 : Nodes) (page : ℕ) (f : Frame × Rights → Frame × Rights) → IsTrue (is_some (at (rows_of node) page)) → walk node2 page ≡ option_map f (walk node page)
-  → ((other : ℕ) → other < 2 ^ 27 → other ≢ page → walk node2 other ≡ walk node other) → rows_of node2 ≡ change (rows_of node) page f
+    → ((other : ℕ) → other < 2 ^ 27 → other ≢ page → walk node2 other ≡ walk node other) → rows_of node2 ≡ change (rows_of node) page f
 rows-changed node node2 page f there here others = by_row (walk node page) refl
   where
     low : page < 2 ^ 27
     low = row-low node page there
+
     by_row : (o : Option (Frame × Rights)) → walk node page ≡ o → rows_of node2 ≡ change (rows_of node) page f
     by_row None e = absurd (let found = row-found node page there in let off = ap is_some e in cc)
     by_row (Some row) e =

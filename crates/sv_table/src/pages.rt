@@ -22,6 +22,7 @@ pub const PAGES: u64 = 1 << 27;
 
 /// How many pages are below an entry of the root, and below one of the level under it.
 const PAGES_OF_MIDDLE: u64 = 262_144;
+
 const PAGES_OF_LEAF: u64 = 512;
 
 /// The leaf of a page, where there is one.

@@ -1,5 +1,5 @@
 use Rattle.slab.specs.Slab.{get}
-use Rattle.std.proofs.Common.{◌≡◌, List, length, Some, sym, ap, ◌∙◌, subst}
+use Rattle.std.proofs.Common.{length, sym, ap, ◌∙◌, subst}
 use Rattle.sv_table.proofs.SvTable.node.Goals as goal
 use Rattle.sv_table.proofs.Walked.{at-rows_low}
 use Rattle.sv_table.specs.Trees.{Kept}

@@ -1,4 +1,3 @@
-use Rattle.slab.specs.Slab.{get}
 use Rattle.std.proofs.Common.{sym, ap, ◌∙◌}
 use Rattle.sv_table.proofs.EntryWords.{node_in-none}
 use Rattle.sv_table.proofs.nodes.child_of.Goals as goal

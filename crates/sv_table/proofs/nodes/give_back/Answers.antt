@@ -1,10 +1,9 @@
 use Rattle.slab.specs.Slab.{get}
-use Rattle.std.proofs.Common.{Some, sym, ap, ◌∙◌, arith}
+use Rattle.std.proofs.Common.{sym, ◌∙◌, arith}
 use Rattle.sv_table.proofs.Giving.{Given, given_in_two, not_given, parent_there}
 use Rattle.sv_table.proofs.Keys.{met}
 use Rattle.sv_table.proofs.Rooms.{absent-more}
 use Rattle.sv_table.proofs.nodes.give_back.Goals as goal
-use Rattle.sv_table.specs.Walks.{above, entry_above}
 
 pub index-requires : goal.index-requires
 index-requires c = met (get c.args.nodes.now) c.args.key c.args.place c.args.key c.requires.tree c.requires.high c.requires.key

@@ -1,7 +1,5 @@
-use Rattle.slab.specs.Slab.{Updates, get}
-use Rattle.std.proofs.Common.{Some, sym, ap, ◌∙◌, arith}
-use Rattle.std.specs.Prelude.{option_map, slice_set}
-use Rattle.sv_table.proofs.Keys.{met}
+use Rattle.slab.specs.Slab.{get}
+use Rattle.std.proofs.Common.{sym, ◌∙◌, arith}
 use Rattle.sv_table.proofs.Making.{Made, key_at-below, made_in_two, parent_there}
 use Rattle.sv_table.proofs.Opening.{leads}
 use Rattle.sv_table.proofs.Rooms.{absent-less, absent-some}

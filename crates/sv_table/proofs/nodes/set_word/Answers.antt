@@ -1,5 +1,5 @@
 use Rattle.slab.specs.Slab.{get}
-use Rattle.std.proofs.Common.{ap, arith}
+use Rattle.std.proofs.Common.{arith}
 use Rattle.sv_table.proofs.Keys.{met}
 use Rattle.sv_table.proofs.Rooms.{absent-same}
 use Rattle.sv_table.proofs.Setting.{LeafChange, set}

@@ -4,7 +4,6 @@ use Rattle.sv_table.proofs.Keys.{key_at-root}
 use Rattle.sv_table.proofs.Paging.{touches_leaf, touches_middle}
 use Rattle.sv_table.proofs.pages.put_in.Goals as goal
 use Rattle.sv_table.specs.Walks.{above, key_at}
-use Rattle.sv_table.specs.Words.{page_in}
 
 pub make-middle-requires-clause-parent : goal.make-middle-requires-clause-parent
 make-middle-requires-clause-parent c =

@@ -1,5 +1,5 @@
 use Rattle.slab.specs.Slab.{get}
-use Rattle.std.proofs.Common.{◌≡◌, ◌≤◌, ◌<◌}
+use Rattle.std.proofs.Common.{◌≡◌, ◌<◌}
 use Rattle.sv_table.proofs.room.absent_between.Given as goal
 use Rattle.sv_table.specs.Room.{absent_from}
 

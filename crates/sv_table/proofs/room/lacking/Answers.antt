@@ -1,8 +1,8 @@
 use Rattle.mck_word.specs.declared.PageRange.{PageRange}
 use Rattle.slab.specs.Slab.{get}
-use Rattle.std.proofs.Common.{◌≡◌, ◌+◌, get_or, sym, ap, ◌∙◌, subst, arith}
+use Rattle.std.proofs.Common.{get_or, ◌∙◌, arith}
 use Rattle.std.proofs.lemmas.List.{drop_more}
-use Rattle.sv_table.proofs.Looked.{Looked, looked-all, looked-more, looked-none, looked-over}
+use Rattle.sv_table.proofs.Looked.{looked-all, looked-more, looked-none, looked-over}
 use Rattle.sv_table.proofs.Looking.{absent-few}
 use Rattle.sv_table.proofs.room.lacking.Goals as goal
 use Rattle.sv_table.proofs.room.lacking.Goals.{else-r, then-r}

@@ -1,5 +1,5 @@
 use Rattle.slab.specs.Slab.{get}
-use Rattle.std.proofs.Common.{◌≡◌, ◌≢◌, ℕ, None, Option, Some, get_or, sym, ap, ◌∙◌, subst, arith}
+use Rattle.std.proofs.Common.{◌≡◌, ◌≢◌, ℕ, None, Some, get_or, sym, ap, ◌∙◌, arith}
 use Rattle.sv_table.proofs.RootAlone.{root_rows, root_tree}
 use Rattle.sv_table.proofs.room.root_alone.Goals as goal
 

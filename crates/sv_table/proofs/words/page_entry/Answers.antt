@@ -1,4 +1,4 @@
-use Rattle.std.proofs.Common.{ap, ◌∙◌, arith}
+use Rattle.std.proofs.Common.{arith}
 use Rattle.sv_table.proofs.EntryWords.{page_in-entry}
 use Rattle.sv_table.proofs.words.page_entry.Goals as goal
 
