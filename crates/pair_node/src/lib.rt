@@ -11,6 +11,7 @@ mod booting;
 mod built;
 mod events;
 mod inspect;
+mod machine;
 mod pair;
 mod room;
 mod summary;
