@@ -34,15 +34,16 @@ def image_bytes(words, data):
 
 
 def write_job(folder, images, job):
-    """The job's text, with guests first, since a signal's line has to stand where the row says."""
+    """The job's text, with guests first, since a signal's line has to stand where the row says; empty lines say nothing."""
     lines = []
     for k, (words, data) in enumerate(images):
         name = chr(ord("a") + k)
         (folder / name).write_bytes(image_bytes(words, data))
         lines.append(f"guest {name}")
     for line, guest, signal, after in job.get("signals", ()):
+        lines += [""] * (line - 1 - len(lines))
         lines.append(f"signal {guest} {signal} {after}")
-        assert line == len(lines), "the signal's line"
+        assert line == len(lines), f"signal line {line}"
     for name, content in dict(job.get("files", {})).items():
         (folder / f"file_{name}").write_bytes(content.encode() if isinstance(content, str) else content)
         lines.append(f"file /{name} file_{name}")
