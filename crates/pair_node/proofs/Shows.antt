@@ -27,7 +27,7 @@ use Rattle.std.proofs.lemmas.Bool.{cases_lt, true≢false}
 use Rattle.std.proofs.lemmas.Option.{slice_get-map}
 use Rattle.std.specs.FinMap as finmap
 use Rattle.std.specs.List.{list_all, list_any}
-use Rattle.std.specs.Prelude.{Bool, IfSome, List, None, Option, Some, [], false, find, is_some, length, map, nat_le, option_map, slice_get, true, unwrap_or, ℕ, ◌&&◌, ◌+◌, ◌-◌, ◌<◌, ◌^◌, ◌||◌, ◌≡◌, ◌≤◌, ◌∷◌}
+use Rattle.std.specs.Prelude.{Bool, IfSome, List, None, Option, Some, [], find, is_some, length, map, nat_le, option_map, slice_get, unwrap_or, ℕ, ◌&&◌, ◌-◌, ◌<◌, ◌^◌, ◌||◌, ◌≡◌, ◌≤◌, ◌∷◌}
 
 -- ---- a map whose values are seen in another form
 module _ {V W : Type 0} (f : V → W) where

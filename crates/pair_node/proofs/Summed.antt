@@ -4,23 +4,21 @@ use Rattle.file_summary.proofs.ByKey.{entries-by-key}
 use Rattle.hybrid_model.specs.Globals.{Coherent}
 use Rattle.hybrid_model.specs.Pairs.{Pair}
 use Rattle.hybrid_model.specs.Sides.{Row, Side as SideOf}
-use Rattle.kernel_model.specs.Nodes.{Node, Process, ScriptLine, no_process, process_of}
+use Rattle.kernel_model.specs.Nodes.{Node, Process, no_process, process_of}
 use Rattle.lwk_node.specs.Shown.{shown_line}
 use Rattle.lwk_node.specs.declared.script_lines.ScriptLine.{ScriptLine as LineRow}
 use Rattle.lwk_threads.proofs.Showing.{entries-each, pair_of as shown_pair}
-use Rattle.mck_word.specs.Maps.{Map, at, entries, keys}
+use Rattle.mck_word.specs.Maps.{Map, entries, keys}
 use Rattle.mck_word.specs.declared.Pid.{Pid}
 use Rattle.offer_laws.specs.Small.{Small}
 use Rattle.pair_core.specs.Shown.{pair_of, shown_side}
 use Rattle.pair_core.specs.declared.parts.Parts.{Parts}
-use Rattle.pair_core.specs.declared.parts.Side.{Side}
 use Rattle.pair_node.specs.Summed.{end_at, numbered_in}
 use Rattle.run_model.specs.Reports.{requests}
 use Rattle.run_summary.specs.Summaries.{line_number, process_end}
-use Rattle.run_summary.specs.declared.ProcessEnd.{ProcessEnd}
 use Rattle.std.proofs.Common.{ap, arith, refl, sym, ◌∙◌}
 use Rattle.std.proofs.lemmas.List.Sums.{sum_by-cons}
-use Rattle.std.specs.Prelude.{List, [], map, sum_by, unwrap_or, ℕ, ◌+◌, ◌-◌, ◌<◌, ◌^◌, ◌≡◌, ◌∷◌}
+use Rattle.std.specs.Prelude.{List, [], map, sum_by, ℕ, ◌+◌, ◌-◌, ◌<◌, ◌^◌, ◌≡◌, ◌∷◌}
 
 -- ---- requests
 

@@ -27,10 +27,7 @@ pub fn last<T: PageTable + Drop, F: FileStore>(parts: &Parts<T, F>, core: u32) -
 }
 
 /// The lowest live thread from there on.
-pub fn next_thread<T: PageTable + Drop, F: FileStore>(
-    parts: &Parts<T, F>,
-    from: Tid,
-) -> Option<Tid>
+pub fn next_thread<T: PageTable + Drop, F: FileStore>(parts: &Parts<T, F>, from: Tid) -> Option<Tid>
     ensures value { option_map thread_number result ≡ key_from (pair_of T.rows F.files parts.now).node.threads from.0 }
     ensures below { IfSome result (λ t. t.0 < 2 ^ 32 - 1) }
 {
@@ -62,10 +59,7 @@ fn index_at(lines: &[ScriptLine], place: usize) -> Option<u32>
 }
 
 /// The index of the unsent line of the script at that place, from 0.
-pub fn unsent<T: PageTable + Drop, F: FileStore>(
-    parts: &Parts<T, F>,
-    place: usize,
-) -> Option<u32>
+pub fn unsent<T: PageTable + Drop, F: FileStore>(parts: &Parts<T, F>, place: usize) -> Option<u32>
     ensures value { result ≡ option_map (λ (l : KernelLine). l.index) (slice_get (pair_of T.rows F.files parts.now).node.unsent place) }
     ensures below { IfSome result (λ _. place < 2 ^ 64 - 1) }
 {

@@ -1,7 +1,6 @@
 use Rattle.pair_core.specs.Shown.{pair_of}
 use Rattle.pair_node.proofs.summary.end_at.Goals as goal
 use Rattle.run_summary.specs.Summaries.{end_of}
-use Rattle.run_summary.specs.declared.ProcessEnd.{ProcessEnd}
 use Rattle.std.proofs.Common.{ap, ◌∙◌}
 
 pub returns : goal.returns

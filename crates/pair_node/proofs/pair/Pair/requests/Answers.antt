@@ -1,11 +1,10 @@
 use Rattle.pair_core.specs.Shown.{pair_of}
-use Rattle.pair_core.specs.declared.parts.Side.{Side}
 use Rattle.pair_node.proofs.Sound.{sound-told}
 use Rattle.pair_node.proofs.Summed.{all-numbered, few-numbered}
 use Rattle.pair_node.proofs.pair.Pair.requests.Goals as goal
 use Rattle.pair_node.specs.Summed.{numbered_in}
 use Rattle.std.proofs.Common.{ap, subst, sym, ◌∙◌}
-use Rattle.std.specs.Prelude.{List, sum_by, ℕ, ◌<◌, ◌^◌}
+use Rattle.std.specs.Prelude.{sum_by, ℕ, ◌<◌, ◌^◌}
 
 pub numbered_in-requires : goal.numbered_in-requires
 numbered_in-requires g c =

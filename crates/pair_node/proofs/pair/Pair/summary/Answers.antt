@@ -1,11 +1,10 @@
 use Rattle.lwk_node.specs.Shown.{node_of}
 use Rattle.lwk_node.specs.declared.script_lines.ScriptLine.{ScriptLine}
-use Rattle.mck_word.specs.declared.Pid.{Pid}
 use Rattle.pair_core.specs.Shown.{pair_of}
 use Rattle.pair_node.proofs.Summed.{ends-are, lines-are}
 use Rattle.pair_node.proofs.pair.Pair.summary.Goals as goal
 use Rattle.std.proofs.Common.{ap, ◌∙◌}
-use Rattle.std.specs.Prelude.{List, map}
+use Rattle.std.specs.Prelude.{map}
 
 pub returns : goal.returns
 unfolding pair_of node_of
