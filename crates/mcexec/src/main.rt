@@ -1,0 +1,92 @@
+//! The program: runs the command that the words are, with the files of the working directory as its host and standard output as its sink.
+//! The status's line goes to standard error, and its number is the exit status.
+//!
+//! Promises: over any host and sink, `answer` meets the table of statuses (mcexec_run, Outcome) with the two kernels of pair_node, page tables
+//! as sorted rows and the plain store of files. In it stands, for each journal that a walk keeps, the whole main theorem (hybrid_model, Claims).
+//! What the system gives under a name, and what becomes of what it takes, no clause says.
+#![tactic(auto)]
+
+ghost use Rattle.mcexec_run.specs.Chain.{prepared};
+ghost use Rattle.mcexec_run.specs.Commands.{command_of, second_word};
+ghost use Rattle.mcexec_run.specs.Outcome.{CallOutcome};
+ghost use Rattle.mck_report.specs.Status.{number_of};
+ghost use Rattle.outside.specs.Outside.{HostGoesOn, WhereTold};
+ghost use Rattle.pair_node.specs.Built.{built};
+ghost use Rattle.std.specs.Prelude.{◌≡◌, ◌≤◌};
+ghost use Rattle.std.specs.Process.{exit_status};
+
+use mcexec_run::{Ended, mcexec};
+use mck_report::{Status, status_line, status_number};
+use one_files::RowFiles;
+use outside::{Host, Sink};
+use page_map::PageMap;
+use pair_node::Pair;
+use std::alloc::Global;
+use std::env;
+use std::io::ErrorKind;
+use std::process::ExitCode;
+use std::str;
+use std_outside::{FsHost, StdSink};
+
+/// The node that is run.
+type Node = Pair<PageMap, RowFiles>;
+
+/// Runs the command that the words are.
+fn answer<H: Host, S: Sink>(alloc: Global, words: &[String], host: &mut H, sink: &mut S) -> Ended
+    ensures goes_on { HostGoesOn H.holds H.faults host.old host.new }
+    ensures rises { S.faults sink.old ≤ S.faults sink.new }
+    ensures outcome { WhereTold (H.holds host.old) (λ held.
+        CallOutcome built (command_of words.now) (prepared held (second_word words.now)) result.status result.journal (S.taken sink.old) (S.taken sink.new)) }
+{
+    mcexec::<Node, H, S>(alloc, words, host, sink)
+}
+
+// The words behind the program's name. One that isn't UTF-8 fits no command.
+fn read_words(rt: &HostRuntime) -> Result<Vec<String>, Status> {
+    let mut args = match env::args(rt) {
+        Ok(args) => args,
+        Err(error) if error.kind() == ErrorKind::OutOfMemory => return Err(Status::NoMemory),
+        Err(_) => return Err(Status::BadWords),
+    };
+    let _name = args.next();
+    match args.collect(rt.alloc()) {
+        Ok(words) => Ok(words),
+        Err(_) => Err(Status::NoMemory),
+    }
+}
+
+fn run(rt: &HostRuntime) -> Status {
+    match read_words(rt) {
+        Ok(words) => {
+            let mut host = FsHost::new(rt);
+            let mut sink = StdSink::new(rt);
+            answer(rt.alloc(), &words, &mut host, &mut sink).status
+        }
+        Err(status) => status,
+    }
+}
+
+// Prints the line of a status, where it has one. Where that fails, the exit status still tells it.
+fn tell(rt: &HostRuntime, status: &Status) {
+    let Ok(line) = status_line(rt.alloc(), status) else {
+        return;
+    };
+    if let Ok(line) = str::from_utf8(line.as_slice()) {
+        let _ = rt.eprint(line);
+    }
+}
+
+fn exit_code(status: &Status) -> ExitCode
+    ensures { exit_status result ≡ number_of status.now }
+{
+    ExitCode::from(status_number(status))
+}
+
+fn main(rt: HostRuntime) -> ExitCode {
+    let status = run(&rt);
+    tell(&rt, &status);
+    exit_code(&status)
+}
+
+#[cfg(test)]
+mod tests;
