@@ -19,7 +19,6 @@ use mcexec_run::{Ended, mcexec};
 use mck_report::{Status, status_line, status_number};
 use one_files::RowFiles;
 use outside::{Host, Sink};
-use page_map::PageMap;
 use pair_node::Pair;
 use std::alloc::Global;
 use std::env;
@@ -27,9 +26,10 @@ use std::io::ErrorKind;
 use std::process::ExitCode;
 use std::str;
 use std_outside::{FsHost, StdSink};
+use sv_table::SvTable;
 
 /// The node that is run.
-type Node = Pair<PageMap, RowFiles>;
+type Node = Pair<SvTable, RowFiles>;
 
 /// Runs the command that the words are.
 fn answer<H: Host, S: Sink>(alloc: Global, words: &[String], host: &mut H, sink: &mut S) -> Ended
