@@ -21,10 +21,9 @@ use one_files::RowFiles;
 use outside::{Host, Sink};
 use pair_node::Pair;
 use std::alloc::Global;
-use std::env;
 use std::io::ErrorKind;
 use std::process::ExitCode;
-use std::str;
+use std::{env, str};
 use std_outside::{FsHost, StdSink};
 use sv_table::SvTable;
 

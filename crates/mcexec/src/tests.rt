@@ -47,11 +47,15 @@ fn exit_code_seven(rt: HostRuntime) -> Result<(), Fail> {
     let alloc = rt.alloc();
     let (status, text) = written(alloc, &SEVEN, &["walk", "job"])?;
     assert_eq!(rt; status, 0);
-    let report = b"mcreport 1\nend done\nguest 1 exit 7\noutput 1 0\n\ncount instructions 3\ncount requests 0\ncount faults 0\ncount rounds 0\ncount free 18\n";
+    let report =
+        b"mcreport 1\nend done\nguest 1 exit 7\noutput 1 0\n\ncount instructions 3\ncount requests 0\ncount faults 0\ncount rounds 0\ncount free 18\n";
     assert_eq!(rt; text.as_slice(), report.as_slice());
     let (status, text) = written(alloc, &SEVEN, &["walk", "job", "trace"])?;
     assert_eq!(rt; status, 0);
-    assert_eq!(rt; text.as_slice(), b"mctrace 2\nrun 0 1 64\ntrap 1\nreap 1\n".as_slice());
+    assert_eq!(rt;
+        text.as_slice(),
+        b"mctrace 2\nrun 0 1 64\ntrap 1\nreap 1\n".as_slice()
+    );
     Ok(())
 }
 
@@ -59,7 +63,8 @@ fn exit_code_seven(rt: HostRuntime) -> Result<(), Fail> {
 fn hello_by_request_and_mirror_fault(rt: HostRuntime) -> Result<(), Fail> {
     let (status, text) = written(rt.alloc(), &HELLO, &["walk", "job", "0", "trace"])?;
     assert_eq!(rt; status, 0);
-    let trace = b"mctrace 2\nrun 0 1 64\ntrap 1\nfetch 1\nassign 1 0\nact 1 0\nmiss 1 0\nintake 1\nanswer 1 0\nfetch 1\npin 1 0\ncopy 1 0\nunpin 1 0\nfinish 1 0\nintake 1\nrun 0 1 64\ntrap 1\nreap 1\n";
+    let trace =
+        b"mctrace 2\nrun 0 1 64\ntrap 1\nfetch 1\nassign 1 0\nact 1 0\nmiss 1 0\nintake 1\nanswer 1 0\nfetch 1\npin 1 0\ncopy 1 0\nunpin 1 0\nfinish 1 0\nintake 1\nrun 0 1 64\ntrap 1\nreap 1\n";
     assert_eq!(rt; text.as_slice(), trace.as_slice());
     Ok(())
 }
@@ -69,7 +74,8 @@ fn a_check_and_refusals(rt: HostRuntime) -> Result<(), Fail> {
     let alloc = rt.alloc();
     let (status, text) = written(alloc, &SEVEN, &["check", "job"])?;
     assert_eq!(rt; status, 0);
-    let needs = b"guest 1 entry 0000000000010078 pages 18\nsegment 0000000000010000 132 rwx\nframes 18 of 18\n";
+    let needs =
+        b"guest 1 entry 0000000000010078 pages 18\nsegment 0000000000010000 132 rwx\nframes 18 of 18\n";
     assert_eq!(rt; text.as_slice(), needs.as_slice());
     assert_eq!(rt; written(alloc, &SEVEN, &["walk"])?.0, 2);
     assert_eq!(rt; written(alloc, &SEVEN, &["walk", "image"])?.0, 3);

@@ -41,7 +41,5 @@ pub fn call(
     for word in words {
         owned.push(String::from_str(alloc, word)?)?;
     }
-    Ok(mcexec::<Node, MemHost, MemSink>(
-        alloc, &owned, host, sink,
-    ))
+    Ok(mcexec::<Node, MemHost, MemSink>(alloc, &owned, host, sink))
 }

@@ -15,7 +15,8 @@ fn exit_code_seven(rt: HostRuntime) -> Result<(), Fail> {
     let mut sink = sink_of(alloc, 4096, 4096)?;
     let ended = call(alloc, &["walk", "job"], &mut host, &mut sink)?;
     assert_eq!(rt; ended.status, Status::Done);
-    let report = b"mcreport 1\nend done\nguest 1 exit 7\noutput 1 0\n\ncount instructions 3\ncount requests 0\ncount faults 0\ncount rounds 0\ncount free 18\n";
+    let report =
+        b"mcreport 1\nend done\nguest 1 exit 7\noutput 1 0\n\ncount instructions 3\ncount requests 0\ncount faults 0\ncount rounds 0\ncount free 18\n";
     assert_eq!(rt; sink.taken(), report.as_slice());
     let journal = [
         Event::Run(0, Tid(1), 64),
@@ -33,7 +34,8 @@ fn hello_by_request_and_mirror_fault(rt: HostRuntime) -> Result<(), Fail> {
     let mut sink = sink_of(alloc, 4096, 4096)?;
     let ended = call(alloc, &["walk", "job"], &mut host, &mut sink)?;
     assert_eq!(rt; ended.status, Status::Done);
-    let report = b"mcreport 1\nend done\nguest 1 exit 0\noutput 1 5\nhello\ncount instructions 9\ncount requests 1\ncount faults 1\ncount rounds 0\ncount free 18\n";
+    let report =
+        b"mcreport 1\nend done\nguest 1 exit 0\noutput 1 5\nhello\ncount instructions 9\ncount requests 1\ncount faults 1\ncount rounds 0\ncount free 18\n";
     assert_eq!(rt; sink.taken(), report.as_slice());
     let p = Pid(1);
     let t = Tid(1);
@@ -67,7 +69,8 @@ fn trace_of_hello(rt: HostRuntime) -> Result<(), Fail> {
     let mut sink = sink_of(alloc, 4096, 7)?;
     let ended = call(alloc, &["walk", "job", "trace"], &mut host, &mut sink)?;
     assert_eq!(rt; ended.status, Status::Done);
-    let trace = b"mctrace 2\nrun 0 1 64\ntrap 1\nfetch 1\nassign 1 0\nact 1 0\nmiss 1 0\nintake 1\nanswer 1 0\nfetch 1\npin 1 0\ncopy 1 0\nunpin 1 0\nfinish 1 0\nintake 1\nrun 0 1 64\ntrap 1\nreap 1\n";
+    let trace =
+        b"mctrace 2\nrun 0 1 64\ntrap 1\nfetch 1\nassign 1 0\nact 1 0\nmiss 1 0\nintake 1\nanswer 1 0\nfetch 1\npin 1 0\ncopy 1 0\nunpin 1 0\nfinish 1 0\nintake 1\nrun 0 1 64\ntrap 1\nreap 1\n";
     assert_eq!(rt; sink.taken(), trace.as_slice());
     Ok(())
 }
@@ -94,7 +97,8 @@ fn two_guests(rt: HostRuntime) -> Result<(), Fail> {
     let mut sink = sink_of(alloc, 4096, 4096)?;
     let ended = call(alloc, &["walk", "job"], &mut host, &mut sink)?;
     assert_eq!(rt; ended.status, Status::Done);
-    let report = b"mcreport 1\nend done\nguest 1 exit 0\nguest 2 exit 0\noutput 1 5\nhello\noutput 2 5\nhello\ncount instructions 18\ncount requests 2\ncount faults 2\ncount rounds 0\ncount free 36\n";
+    let report =
+        b"mcreport 1\nend done\nguest 1 exit 0\nguest 2 exit 0\noutput 1 5\nhello\noutput 2 5\nhello\ncount instructions 18\ncount requests 2\ncount faults 2\ncount rounds 0\ncount free 36\n";
     assert_eq!(rt; sink.taken(), report.as_slice());
     Ok(())
 }

@@ -46,7 +46,7 @@ returns-clause-inside g c =
     let empty = ap rows c.reserve.ensures.same ∙ c.make_room.ensures.same ∙ ap (λ x. rows x.table) c.new-space.ensures ∙ c.requires.empty in
     let pool = c.in_ok-pool.pool in
     let made = rows_made (rows c.map.new.self.table) c.args.mem.now c.map.new.mem pool.free c.map.new.pool.free
-        (c.map.ensures.after ∙ ap (λ m. each_in (add_page (record { 0 = 3 })) (record { lo = 16; hi = 17 }) (record { table = m; frames = frames_map c.args.mem.now; free = pool.free })) empty) in
+    (c.map.ensures.after ∙ ap (λ m. each_in (add_page (record { 0 = 3 })) (record { lo = 16; hi = 17 }) (record { table = m; frames = frames_map c.args.mem.now; free = pool.free })) empty) in
     let first = first_zero pool c.in_ok-pool.ensures in
     let count = c.map.ensures.mem in
     let one = c.requires.frames in
@@ -58,5 +58,5 @@ returns-clause-apart g c =
     let empty = ap rows c.reserve.ensures.same ∙ c.make_room.ensures.same ∙ ap (λ x. rows x.table) c.new-space.ensures ∙ c.requires.empty in
     let pool = c.in_ok-pool.pool in
     let made = rows_made (rows c.map.new.self.table) c.args.mem.now c.map.new.mem pool.free c.map.new.pool.free
-        (c.map.ensures.after ∙ ap (λ m. each_in (add_page (record { 0 = 3 })) (record { lo = 16; hi = 17 }) (record { table = m; frames = frames_map c.args.mem.now; free = pool.free })) empty) in
+    (c.map.ensures.after ∙ ap (λ m. each_in (add_page (record { 0 = 3 })) (record { lo = 16; hi = 17 }) (record { table = m; frames = frames_map c.args.mem.now; free = pool.free })) empty) in
     apart_one (rows c.map.new.self.table) (row_of (first_number pool.free)) made
