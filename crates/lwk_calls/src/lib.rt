@@ -1,10 +1,10 @@
 //! The local calls of a thread, on the tables of its node, its process's space and the frames.
 //!
-//! Promises: each call is the word of its name in kernel_model's specs (LocalCalls, SignalCalls, CloneCalls, Calls), and `deliver` the
-//! delivery of its specs/Signals, as `Did` of lwk_views says it:
-//! the node, the answer and the stores are the word's. No call takes memory or fails: clone and futex ask for room for one thread or one
-//! sleeper, the others lessen no room. What coherence gives the caller (the thread lives, it sleeps nowhere, fewer than sixteen sleep
-//! at an address) stands as a condition where it is needed. A clone that makes a process is made elsewhere.
+//! Promises: each call is the word of its name in kernel_model's specs (LocalCalls, SignalCalls, CloneCalls, Calls), and `deliver` and
+//! `return_from_handler` those of its specs/Signals, as `Did` of lwk_views says it: the node, the answer and the stores are the word's.
+//! No call takes memory or fails: clone and futex ask for room for one thread or one sleeper, the others lessen no room. What coherence
+//! gives the caller (the thread lives, it sleeps nowhere, fewer than sixteen sleep at an address) stands as a condition where it is
+//! needed. A clone that makes a process is made elsewhere.
 #![tactic(auto)]
 
 mod actions;
