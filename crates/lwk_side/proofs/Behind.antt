@@ -31,7 +31,7 @@ process-there (Some x) = refl
 at-itself : (node : KernelNode) (t : ℕ) → at (behind t node).threads t ≡ option_map past (at node.threads t)
 at-itself node t = at-change node.threads t past t ∙ (let e : (t == t) ≡ true = grind (arith, nat_tests) in rw e refl)
 
-process-kept : (node : KernelNode) (t : ℕ) → (thread_of (behind t node) t).process ≡ (thread_of node t).process
+pub process-kept : (node : KernelNode) (t : ℕ) → (thread_of (behind t node) t).process ≡ (thread_of node t).process
 process-kept node t = ap (λ (o : Option Thread). (unwrap_or o no_thread).process) (at-itself node t) ∙ process-there (at node.threads t)
 
 pub may-rest : (before after : Node) (t : ℕ) → KeepsRoom before after → Stepped before after (behind t) → MayRest before t → MayRest after t

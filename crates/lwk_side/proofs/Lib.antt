@@ -5,3 +5,4 @@ mod Marking
 mod Dispatched
 mod Behind
 mod Planned
+mod Changing

@@ -9,9 +9,9 @@ use Rattle.mck_word.specs.Lists.{member}
 use Rattle.mck_word.specs.declared.Regs.{Regs}
 use Rattle.std.specs.Prelude.{Bool, List, None, Option, Some, [], false, not, true, ℕ, ◌∷◌}
 
--- the calls that come later: those on signals, on memory, and clone
+-- the calls that come later: those on signals, and clone
 abbrev pub later_calls : List ℕ
-later_calls = 129 ∷ 131 ∷ 134 ∷ 135 ∷ 136 ∷ 139 ∷ 214 ∷ 215 ∷ 220 ∷ 222 ∷ 226 ∷ []
+later_calls = 129 ∷ 131 ∷ 134 ∷ 135 ∷ 136 ∷ 139 ∷ 220 ∷ []
 
 abbrev pub is_built_call : ℕ → Bool
 is_built_call number = not (member number later_calls)

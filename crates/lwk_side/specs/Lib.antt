@@ -1,4 +1,5 @@
 pub mod Built
+pub mod Changing
 pub mod Heads
 pub mod Marks
 pub mod Reaped

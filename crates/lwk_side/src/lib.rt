@@ -6,10 +6,12 @@
 
 mod answers;
 mod begun;
+mod changes;
 mod intake;
 mod interrupts;
 mod kernel;
 mod local_calls;
+mod memory_calls;
 mod reaps;
 mod replies;
 mod rounds;
