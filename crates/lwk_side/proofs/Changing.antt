@@ -2,16 +2,23 @@
 use Rattle.hybrid_model.specs.Lwk.{trapped, view_here}
 use Rattle.hybrid_model.specs.Pairs.{Here, with_node}
 use Rattle.isa_model.specs.Memory.{Memory}
+use Rattle.isa_model.specs.Registers.{reg}
+use Rattle.isa_model.specs.declared.stops.Stop.TheVariants.{Break, Ecall, Fault, Illegal, Misaligned, On}
+use Rattle.isa_model.specs.declared.stops.Stop.{Stop}
+use Rattle.kernel_model.specs.Calls.{local_call}
+use Rattle.kernel_model.specs.CloneCalls.{Born, CallDone, Cloned}
 use Rattle.kernel_model.specs.MemoryCalls.{Decision, Now, Reply, Round, decide}
-use Rattle.kernel_model.specs.Nodes.{Node, Process, process_of, thread_of}
+use Rattle.kernel_model.specs.Nodes.{Node, Process, process_of, stop_in, thread_of}
+use Rattle.kernel_model.specs.Plans.{Delegated, Local, Plan, Unknown, Vm}
 use Rattle.kernel_model.specs.Signals.{View}
-use Rattle.kernel_model.specs.Traps.{Trapped, decided, past_ecall}
+use Rattle.kernel_model.specs.Traps.{Trapped, arguments_of, cloned, decided, past_ecall, planned, trap, trap_of_stop}
 use Rattle.lwk_changes.specs.GoAhead.{ahead-at-once}
 use Rattle.lwk_side.proofs.Behind.{process-kept}
-use Rattle.lwk_side.specs.Changing.{HasDecidedRoom, HasTrappedRoom, IsAhead, memory_call}
+use Rattle.lwk_side.specs.Changing.{HasDecidedRoom, HasTrappedRoom, IsAhead, is_ecall, memory_call}
 use Rattle.mck_word.specs.declared.PageRange.{PageRange}
-use Rattle.std.proofs.Common.{ap, refl, sym, ◌∙◌, ◌≡◌}
-use Rattle.std.specs.Prelude.{List, length, ℕ}
+use Rattle.mck_word.specs.declared.Regs.{Regs}
+use Rattle.std.proofs.Common.{ap, refl, subst, sym, ◌∙◌, ◌≡◌}
+use Rattle.std.specs.Prelude.{List, None, Option, Some, length, true, ℕ}
 
 -- what is decided does away with the node that stood there
 same-decided : (p t : ℕ) (v : View) (h : Here) (node : Node) (d : Decision) → trapped p t (decided t v d) (with_node h node) ≡ trapped p t (decided t v d) h
@@ -48,3 +55,36 @@ pub decided-ahead : (p : Process) (m : Memory) (free number : ℕ) (arguments : 
 decided-ahead p m free number arguments (Reply answer) e = tt
 decided-ahead p m free number arguments (Now c) e = ahead-at-once p m free number arguments c e
 decided-ahead p m free number arguments (Round c) e = tt
+
+-- ---- room made before
+pub call-room : (has_room : List PageRange → Type 0) (spare p t free number : ℕ) (arguments : List ℕ) (v : View) → (thread_of v.node t).process ≡ p
+    → HasDecidedRoom has_room spare (process_of v.node p).program_break (decide (process_of v.node p) v.memory free number arguments) → HasTrappedRoom has_room spare p (memory_call t free number arguments v)
+call-room has_room spare p t free number arguments v own h =
+    subst (λ (x : Trapped). HasTrappedRoom has_room spare p x) (memory-call-by p t free number arguments v own)
+    (room-decided has_room spare p t (past_ecall t v) (decision_of t free number arguments v p) h)
+
+module _ (has_room : List PageRange → Type 0) (spare p t free : ℕ) where
+  done-room : (x : Cloned) → HasTrappedRoom has_room spare p (cloned x)
+  done-room (CallDone v) = tt
+  done-room (Born v child stores) = tt
+
+  -- only a memory call changes memory at once
+  pub plan-room : (regs : Regs) (v : View) (w : Plan) → (w ≡ Vm → HasTrappedRoom has_room spare p (planned t free regs v Vm)) → HasTrappedRoom has_room spare p (planned t free regs v w)
+  plan-room regs v Unknown h = tt
+  plan-room regs v Local h = done-room (local_call t free (reg regs 17) (arguments_of regs) v)
+  plan-room regs v Vm h = h refl
+  plan-room regs v (Delegated phases) h = tt
+
+  -- and only at an ecall
+  stop-room : (v : View) (o : Option Stop) → (is_ecall o ≡ true → HasTrappedRoom has_room spare p (trap_of_stop t free v (Some Ecall))) → HasTrappedRoom has_room spare p (trap_of_stop t free v o)
+  stop-room v None h = tt
+  stop-room v (Some On) h = tt
+  stop-room v (Some Ecall) h = h refl
+  stop-room v (Some Break) h = tt
+  stop-room v (Some Illegal) h = tt
+  stop-room v (Some Misaligned) h = tt
+  stop-room v (Some (Fault lack)) h = tt
+
+  pub trap-room : (v : View) → (is_ecall (stop_in (thread_of v.node t).does) ≡ true → HasTrappedRoom has_room spare p (trap_of_stop t free v (Some Ecall))) → HasTrappedRoom has_room spare p (trap t free v)
+  unfolding trap
+  trap-room v h = stop-room v (stop_in (thread_of v.node t).does) h

@@ -1,3 +1,4 @@
+pub mod Acks
 pub mod Built
 pub mod Changing
 pub mod Heads

@@ -4,8 +4,10 @@
 //! process and the channel show (specs/Shown, `here_of`), whatever the parts are that it isn't handed. What takes memory has its room made before.
 #![tactic(auto)]
 
+mod acks;
 mod answers;
 mod begun;
+mod change_room;
 mod changes;
 mod intake;
 mod interrupts;

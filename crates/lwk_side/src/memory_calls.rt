@@ -27,7 +27,7 @@ use vm_calls::VmPlan;
 
 impl Lwk {
     /// What a memory call of the process decides. No request belongs to it.
-    fn plans_memory_call<T: PageTable>(
+    pub(crate) fn plans_memory_call<T: PageTable>(
         &self,
         space: &Space<T>,
         p: Pid,
