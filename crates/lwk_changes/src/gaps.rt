@@ -3,7 +3,6 @@ ghost use Rattle.isa_model.specs.Memory.{Memory};
 ghost use Rattle.kernel_model.specs.MemoryCalls.{highest_gap};
 ghost use Rattle.kernel_model.specs.Pages.{page_end};
 ghost use Rattle.lwk_changes.specs.Shows.{Shows};
-ghost use Rattle.lwk_tables.specs.Spaced.{Agree};
 ghost use Rattle.std.specs.Option.{ForSome};
 ghost use Rattle.std.specs.Prelude.{◌≡◌, ◌+◌, ◌<◌, ◌≤◌, ◌^◌, option_map, true};
 ghost use Rattle.vm_calls.specs.Plans.{argument, looks_for_gap};
@@ -33,17 +32,16 @@ fn looks_for_gap(free: u64, call: &Call) -> bool
 
 /// The first page of the highest gap of so many pages.
 fn highest_gap<T: PageTable>(own: &Space<T>, pages: u64) -> Option<u64>
-    requires some { 1 ≤ pages }
-    requires agree { Agree (T.rows own.now.table) own.now.areas }
+    requires { 1 ≤ pages }
     ensures low { ForSome result (λ low. low < 2 ^ 52) }
     ensures gap { (m : Memory) → Shows (T.rows own.now.table) m → option_map (λ low. low + pages) result ≡ highest_gap m pages }
 {
+    own.areas_agree();
     own.areas().gap(pages)
 }
 
 /// The first page of the highest gap, where the call looks for one.
 pub fn gap_for<T: PageTable>(own: &Space<T>, free: u64, call: &Call) -> Option<u64>
-    requires { looks_for_gap free call.now.number call.now.args ≡ true → Agree (T.rows own.now.table) own.now.areas }
     ensures low { ForSome result (λ low. low < 2 ^ 52) }
     ensures gap { (m : Memory) → Shows (T.rows own.now.table) m → looks_for_gap free call.now.number call.now.args ≡ true → option_map (λ low. low + page_end (argument call.now.args 1)) result ≡ highest_gap m (page_end (argument call.now.args 1)) }
 {

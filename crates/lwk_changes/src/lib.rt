@@ -11,15 +11,15 @@ mod counts;
 mod gaps;
 
 ghost use Rattle.isa_model.specs.Memory.{Memory};
+ghost use Rattle.job_model.specs.Images.{highest};
 ghost use Rattle.kernel_model.specs.MemoryCalls.{decide, refusal_at_end};
 ghost use Rattle.kernel_model.specs.Nodes.{Process};
 ghost use Rattle.lwk_changes.specs.Conditions.{ClosesBy};
 ghost use Rattle.lwk_tables.specs.Lacks.{memory};
-ghost use Rattle.lwk_tables.specs.Spaced.{Agree};
+ghost use Rattle.offer_laws.specs.ChangeFits.{DecisionFits};
 ghost use Rattle.std.specs.Option.{ForSome};
-ghost use Rattle.std.specs.Prelude.{◌≡◌, ◌<◌, ◌^◌, ℕ, List, true};
+ghost use Rattle.std.specs.Prelude.{◌≡◌, ◌<◌, ◌≤◌, ◌^◌, ℕ, List};
 ghost use Rattle.vm_calls.specs.Facts.{Describes, DescribesAtEnd, decision, refusal};
-ghost use Rattle.vm_calls.specs.Plans.{looks_for_gap};
 
 pub use changes::{make, make_room_for};
 use counts::{count_present, lessens_any, rights_of};
@@ -30,7 +30,7 @@ use lwk_tables::Space;
 use page_map::PageTable;
 use vm_calls::{AtEnd, Facts, VmPlan, call_range, change_range};
 
-/// What the call has to know of the process's memory. Where it looks for a gap, the mapped pages are those of the table.
+/// What the call has to know of the process's memory.
 pub fn facts_for_call<T: PageTable>(
     own: &Space<T>,
     brk: u64,
@@ -38,7 +38,6 @@ pub fn facts_for_call<T: PageTable>(
     free: u64,
     call: &Call,
 ) -> Facts
-    requires { looks_for_gap free call.now.number call.now.args ≡ true → Agree (T.rows own.now.table) own.now.areas }
     ensures brk { result.brk ≡ brk }
     ensures base { result.base ≡ base }
     ensures free { result.free ≡ free }
@@ -79,12 +78,12 @@ pub fn facts_at_end<T: PageTable>(
     }
 }
 
-/// What a call decides. Where it looks for a gap, the mapped pages are those of the table. A call of another number than 215, 222 and 226 is a brk.
+/// What a call decides, and that its change fits. A call of another number than 215, 222 and 226 is a brk.
 pub fn decide<T: PageTable>(own: &Space<T>, brk: u64, base: u64, free: u64, call: &Call) -> VmPlan
     requires small { brk < 2 ^ 63 }
-    requires heap { base < 2 ^ 63 }
-    requires agree { looks_for_gap free call.now.number call.now.args ≡ true → Agree (T.rows own.now.table) own.now.areas }
+    requires heap { base ≤ highest }
     ensures closing { ClosesBy base result }
+    ensures fits { DecisionFits (decision result) }
     ensures decides { (p : Process) (m : Memory) (pages : List (List ℕ)) → brk ≡ p.program_break → base ≡ p.heap_base → m ≡ memory (T.rows own.now.table) pages → decision result ≡ decide p m free call.now.number call.now.args }
 {
     vm_calls::decide(&facts_for_call(own, brk, base, free, call), call)

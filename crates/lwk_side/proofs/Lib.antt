@@ -6,3 +6,5 @@ mod Dispatched
 mod Behind
 mod Planned
 mod Cloned
+mod Changing
+mod Acked

@@ -9,9 +9,9 @@ use Rattle.mck_word.specs.Lists.{member}
 use Rattle.mck_word.specs.declared.Regs.{Regs}
 use Rattle.std.specs.Prelude.{Bool, List, None, Option, Some, [], false, not, true, ℕ, ◌∷◌}
 
--- the calls that come later: those on memory
+-- the calls that come later
 abbrev pub later_calls : List ℕ
-later_calls = 214 ∷ 215 ∷ 222 ∷ 226 ∷ []
+later_calls = []
 
 abbrev pub is_built_call : ℕ → Bool
 is_built_call number = not (member number later_calls)

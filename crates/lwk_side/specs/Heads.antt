@@ -1,11 +1,10 @@
--- The messages to the lightweight kernel whose intake is built.
+-- The messages to the lightweight kernel that are taken.
 use Rattle.ikc_ring.specs.declared.Msg.{Msg}
-use Rattle.ikc_ring.specs.declared.Msg.TheVariants.{Ack, Fault}
-use Rattle.std.specs.Prelude.{Bool, List, [], false, nat_lt, true, ◌∷◌}
+use Rattle.ikc_ring.specs.declared.Msg.TheVariants.{Fault}
+use Rattle.std.specs.Prelude.{Bool, List, [], nat_lt, true, ◌∷◌}
 
--- no Ack, and a Fault of one of the four workers
+-- a Fault is of one of the four workers
 abbrev pub is_taken : Msg → Bool
-is_taken Ack = false
 is_taken (Fault w page a) = nat_lt w 4
 is_taken _ = true
 

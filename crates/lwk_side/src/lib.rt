@@ -4,8 +4,11 @@
 //! process and the channel show (specs/Shown, `here_of`), whatever the parts are that it isn't handed. What takes memory has its room made before.
 #![tactic(auto)]
 
+mod acks;
 mod answers;
 mod begun;
+mod change_room;
+mod changes;
 mod clones;
 mod delivers;
 mod forks;
@@ -13,6 +16,7 @@ mod intake;
 mod interrupts;
 mod kernel;
 mod local_calls;
+mod memory_calls;
 mod reaps;
 mod replies;
 mod rounds;

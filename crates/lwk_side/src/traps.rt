@@ -7,21 +7,23 @@ ghost use Rattle.isa_model.specs.Registers.{reg};
 ghost use Rattle.isa_model.specs.declared.stops.Stop.TheVariants as stops;
 ghost use Rattle.kernel_model.specs.Calls.{one_of_calls};
 ghost use Rattle.kernel_model.specs.LocalCalls.{answers};
-ghost use Rattle.kernel_model.specs.Nodes.{thread_of};
+ghost use Rattle.kernel_model.specs.Nodes.{process_of, thread_of};
 ghost use Rattle.kernel_model.specs.Plans as plans;
 ghost use Rattle.kernel_model.specs.Plans.{Phase};
 ghost use Rattle.kernel_model.specs.Progress.{starting};
 ghost use Rattle.kernel_model.specs.Signals.{on_node, raised, signal_of_stop};
-ghost use Rattle.kernel_model.specs.Traps.{Begins, arguments_of as arguments_in, past_ecall, planned, trap_of_stop};
+ghost use Rattle.kernel_model.specs.Traps.{Begins, arguments_of as arguments_in, past_ecall, planned, trap, trap_of_stop};
 ghost use Rattle.lwk_node.specs.Shown.{node_of};
 ghost use Rattle.lwk_side.specs.Built.{begins_at, begins_call, is_built_call, is_built_stop, is_built_trap, names_delegated};
+ghost use Rattle.lwk_side.specs.Changing.{HasTrappedRoom, HeapFits};
 ghost use Rattle.lwk_side.specs.Cloning.{MayClone, calls_fork, forks_at, names_fork};
 ghost use Rattle.lwk_side.specs.Resting.{MayRest};
 ghost use Rattle.lwk_side.specs.Shown.{Rest, here_of};
 ghost use Rattle.lwk_side.specs.Sound.{IsSound, KeepsFrames, KeepsRings};
 ghost use Rattle.lwk_side.specs.Wired.{HasPlace, Wired};
+ghost use Rattle.lwk_views.specs.Views.{seen};
 ghost use Rattle.mck_word.specs.Words.{refused};
-ghost use Rattle.std.specs.Prelude.{◌≡◌, ◌<◌, ◌-◌, ◌≤◌, ◌^◌, List, Some, false, get_or, true, ℕ};
+ghost use Rattle.std.specs.Prelude.{◌≡◌, ◌<◌, ◌-◌, ◌≤◌, ◌^◌, List, Some, false, get_or, length, true, ℕ};
 
 use crate::kernel::Lwk;
 use crate::local_calls::{arguments_of, call_number, local_call, raises, refuses_unknown};
@@ -34,10 +36,10 @@ use mck_word::{Pid, Regs, Tid};
 use page_map::PageTable;
 
 /// Whether the call is built: the list of those that come later stands in specs/Built.
-fn is_built_call(number: u64) -> bool
-    ensures { result ≡ is_built_call number }
+fn is_built_call(_number: u64) -> bool
+    ensures { result ≡ is_built_call _number }
 {
-    !matches!(number, 214 | 215 | 222 | 226)
+    true
 }
 
 fn is_built_stop(number: u64, stop: Stop) -> bool
@@ -141,7 +143,14 @@ impl Lwk {
     }
 
     /// The call that the registers of the thread name, which stands on its ecall.
-    fn call<T: PageTable>(&mut self, task: &mut Task<T>, channel: &mut Channel, t: Tid, regs: &Regs)
+    fn call<T: PageTable>(
+        &mut self,
+        task: &mut Task<T>,
+        channel: &mut Channel,
+        p: Pid,
+        t: Tid,
+        regs: &Regs,
+    )
         requires sound { IsSound self.old (T.rows task.old.space.table) }
         requires wired { Wired self.old channel.old.to_linux }
         requires place { names_delegated regs.now ≡ true → HasPlace self.old channel.old.to_linux t.0 }
@@ -152,9 +161,13 @@ impl Lwk {
         requires clone { reg regs.now 17 ≡ 220 → MayClone self.old.node t.0 }
         requires no_fork { names_fork regs.now ≡ false }
         requires built { is_built_call (reg regs.now 17) ≡ true }
-        ensures after { (r : Rest) (p free : ℕ) → here_of self.new (T.rows task.new.space.table) task.new channel.new r
+        requires own { (files : Files) → (thread_of (node_of self.old.node files) t.0).process ≡ p.0 }
+        requires heap { (files : Files) → HeapFits (process_of (node_of self.old.node files) p.0) }
+        requires change { (files : Files) → HasTrappedRoom (T.has_room task.old.space.table) task.old.space.areas.spare p.0
+            (planned t.0 (length self.old.pool.free) regs.now (past_ecall t.0 (seen (T.rows task.old.space.table) self.old.node self.old.frames files)) (plans.plan (reg regs.now 17) (arguments_in regs.now))) }
+        ensures after { (r : Rest) → here_of self.new (T.rows task.new.space.table) task.new channel.new r
             ≡ (let h = here_of self.old (T.rows task.old.space.table) task.old channel.old r in
-            trapped p t.0 (planned t.0 free regs.now (past_ecall t.0 (view_here h)) (plans.plan (reg regs.now 17) (arguments_in regs.now))) h) }
+            trapped p.0 t.0 (planned t.0 (length h.free) regs.now (past_ecall t.0 (view_here h)) (plans.plan (reg regs.now 17) (arguments_in regs.now))) h) }
         ensures cores { self.new.cores ≡ self.old.cores }
         ensures frames { KeepsFrames self.old self.new }
         ensures rings { KeepsRings channel.old channel.new }
@@ -164,7 +177,7 @@ impl Lwk {
         match plan(number, &args) {
             Plan::Unknown => self.refuses_call(task, t),
             Plan::Local => self.makes_call(task, t, number, &args),
-            Plan::Memory => {}
+            Plan::Memory => self.calls_for_memory(task, p, t, number, &args),
             Plan::Delegated(_) => self.begins(task, channel, t, number, &args),
         }
     }
@@ -174,6 +187,7 @@ impl Lwk {
         &mut self,
         task: &mut Task<T>,
         channel: &mut Channel,
+        p: Pid,
         t: Tid,
         stop: Stop,
     )
@@ -187,9 +201,13 @@ impl Lwk {
         requires clone { (files : Files) → reg (thread_of (node_of self.old.node files) t.0).regs 17 ≡ 220 → MayClone self.old.node t.0 }
         requires no_fork { (files : Files) → forks_at (thread_of (node_of self.old.node files) t.0).regs (Some stop) ≡ false }
         requires built { (files : Files) → is_built_stop (reg (thread_of (node_of self.old.node files) t.0).regs 17) (Some stop) ≡ true }
-        ensures after { (r : Rest) (p free : ℕ) → here_of self.new (T.rows task.new.space.table) task.new channel.new r
+        requires own { (files : Files) → (thread_of (node_of self.old.node files) t.0).process ≡ p.0 }
+        requires heap { (files : Files) → HeapFits (process_of (node_of self.old.node files) p.0) }
+        requires change { (files : Files) → HasTrappedRoom (T.has_room task.old.space.table) task.old.space.areas.spare p.0
+            (trap_of_stop t.0 (length self.old.pool.free) (seen (T.rows task.old.space.table) self.old.node self.old.frames files) (Some stop)) }
+        ensures after { (r : Rest) → here_of self.new (T.rows task.new.space.table) task.new channel.new r
             ≡ (let h = here_of self.old (T.rows task.old.space.table) task.old channel.old r in
-            trapped p t.0 (trap_of_stop t.0 free (view_here h) (Some stop)) h) }
+            trapped p.0 t.0 (trap_of_stop t.0 (length h.free) (view_here h) (Some stop)) h) }
         ensures cores { self.new.cores ≡ self.old.cores }
         ensures frames { KeepsFrames self.old self.new }
         ensures rings { KeepsRings channel.old channel.new }
@@ -197,7 +215,7 @@ impl Lwk {
         match stop {
             Stop::Ecall => {
                 let regs = self.node.regs(t);
-                self.call(task, channel, t, &regs);
+                self.call(task, channel, p, t, &regs);
             }
             stop => self.raises_signal(task, t, stop),
         }
@@ -215,6 +233,10 @@ impl Lwk {
         requires clone { (files : Files) → reg (thread_of (node_of self.old.node files) t.0).regs 17 ≡ 220 → MayClone self.old.node t.0 }
         requires no_fork { (files : Files) → calls_fork (node_of self.old.node files) t.0 ≡ false }
         requires built { (files : Files) → is_built_trap (node_of self.old.node files) t.0 ≡ true }
+        requires own { (files : Files) → (thread_of (node_of self.old.node files) t.0).process ≡ p.0 }
+        requires heap { (files : Files) → HeapFits (process_of (node_of self.old.node files) p.0) }
+        requires change { (files : Files) → HasTrappedRoom (T.has_room task.old.space.table) task.old.space.areas.spare p.0
+            (trap t.0 (length self.old.pool.free) (seen (T.rows task.old.space.table) self.old.node self.old.frames files)) }
         ensures event { (r : Rest) → here_of self.new (T.rows task.new.space.table) task.new channel.new r
             ≡ after_trap p.0 t.0 (here_of self.old (T.rows task.old.space.table) task.old channel.old r) }
         ensures frames { KeepsFrames self.old self.new }
@@ -223,7 +245,7 @@ impl Lwk {
         let Does::Stopped(stop) = self.node.does(t) else {
             return;
         };
-        self.trap_of_stop(task, channel, t, stop);
+        self.trap_of_stop(task, channel, p, t, stop);
         self.ran_last(t);
     }
 }

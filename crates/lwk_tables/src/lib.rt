@@ -23,6 +23,7 @@ ghost use Rattle.lwk_tables.specs.Frames.{space};
 ghost use Rattle.isa_model.specs.Memory.{may_access, read_bytes, write_bytes};
 ghost use Rattle.lwk_tables.specs.Lacks.{IsFirstLack, NoRowHas, memory};
 ghost use Rattle.lwk_tables.specs.Rows.{AbsentIn, FramesApart, FramesIn, FramesTaken, LiesIn, PresentIn, RoomFor};
+ghost use Rattle.lwk_tables.specs.Spaced.{Agree};
 ghost use Rattle.mck_word.specs.Maps.{at, no_rows};
 ghost use Rattle.mck_word.specs.declared.Access.TheVariants.{Read, Write};
 ghost use Rattle.mck_word.specs.declared.PageRange.{PageRange as range};
@@ -88,6 +89,13 @@ impl<T: PageTable> Space<T> {
         ensures { result.now ≡ self.now.areas }
     {
         &self.areas
+    }
+
+    /// The mapped pages are those of the table.
+    pub fn areas_agree(&self)
+        ensures { Agree (T.rows self.now.table) self.now.areas }
+    {
+        let _table = &self.table;
     }
 
     /// Sets the break.

@@ -1,4 +1,4 @@
--- What a legal journal of a prepared job keeps small: cores, workers and rings, the processes, the limit, and with it every number that is given.
+-- What a legal journal of a prepared job keeps small: cores, workers and rings, the processes, the limit, and with it every number that is given; where heaps begin, and what changes map.
 use Rattle.hybrid_model.specs.declared.events.Event.TheVariants as Events
 use Rattle.hybrid_laws.specs.CallsLast.{born-is}
 use Rattle.hybrid_laws.specs.EveryEvent.{whole_event}
@@ -23,6 +23,9 @@ use Rattle.kernel_model.specs.Traps.{Begins, Changes, Done, Forks, Trapped, trap
 use Rattle.mck_word.specs.MapLaws.{at-none, at-put}
 use Rattle.mck_word.specs.Maps.{at, count, put}
 use Rattle.mck_word.specs.declared.Tid.{Tid}
+use Rattle.offer_laws.specs.ChangeFits.{MemoryFits}
+use Rattle.offer_laws.specs.MemoryBoot.{boot-fits}
+use Rattle.offer_laws.specs.MemoryEvents.{fits-stay}
 use Rattle.offer_laws.specs.Rows.{count-none, count-put, count-same, count-stays}
 use Rattle.offer_laws.specs.Sizes.{TrapLeaves, limit-stays, sizes, sizes-stay, trap-leaves}
 use Rattle.std.proofs.Common.{ap, arith, refl, subst, sym, ◌∙◌}
@@ -40,6 +43,7 @@ pub record Small (pair : Pair) : Type 0 where
   pub processes : count pair.node.processes ≤ most_processes
   pub positive : has_process pair.node 0 ≡ false
   pub limit : pair.node.limit ≤ most_instructions
+  pub memory : MemoryFits pair.node.processes pair.node.threads
 
 -- Numbers of processes and threads are given once, from 17 on, and each is paid for by an instruction; so are numbers of requests, from 1 on.
 pub record NumbersFit (pair : Pair) : Type 0 where
@@ -158,6 +162,7 @@ module _ (pair : Pair) (c : Coherent pair) (e : Event) (m : may pair e ≡ true)
     processes = (let a = count-sides (after pair e) later in let b = few now.born refl in omega (arith, a, b));
     positive = sym (later.known.sides_are 0) ∙ no-zero now.born refl;
     limit = (let a = limit-stays e p h in let b = s.limit in omega (arith, a, b));
+    memory = fits-stay e p h s.memory;
   }
 
 -- ---- a journal
@@ -202,4 +207,5 @@ boot-small job imgs prepared = record {
   processes = (let a = by-guest (guests_of job imgs) in let b = guests-few 1 job.guests imgs in let d = prepared.guests.1 in omega (arith, a, b, d));
   positive = first-number 1 (omega arith) job.guests imgs;
   limit = prepared.limit.1;
+  memory = boot-fits job.guests imgs prepared.loaded;
 }

@@ -59,8 +59,8 @@ pub fn every_walk()
         → IsWalked job imgs words journal → ending (state (boot job imgs) journal) ≢ Unfinished }
 {}
 
-/// Few cores, workers, rings and processes, and a small limit: a prepared job begins with them, and each event keeps them. With coherence
-/// they bound each number that is given.
+/// Few cores, workers, rings and processes, a small limit, and memory in its bounds: a prepared job begins with them, and each event keeps
+/// them. With coherence they bound each number that is given.
 pub fn few()
     ensures begins { (job : Job) (imgs : List Image) → IsPrepared job imgs → Small (boot job imgs) }
     ensures kept { (pair : Pair) (e : Event) → Coherent pair → may pair e ≡ true → Small pair → Small (after pair e) }

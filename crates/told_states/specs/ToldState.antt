@@ -11,11 +11,14 @@ use Rattle.kernel_model.specs.Nodes.{Node, Process, Sleeper, Thread, process_of}
 use Rattle.kernel_model.specs.OneKernel.{Active, Blocked, CallStatus, Over}
 use Rattle.kernel_model.specs.Progress.{Progress}
 use Rattle.kernel_model.specs.contracts.Does as does
+use Rattle.kernel_model.specs.declared.Change.TheVariants.{Brk, Map as ChangeMap, Protect, Unmap}
+use Rattle.kernel_model.specs.declared.Change.{Change}
 use Rattle.kernel_model.specs.declared.Does.TheVariants.{Asleep}
 use Rattle.mck_flags.specs.contracts.rights.Rights as rights
-use Rattle.mck_word.specs.Maps.{at, no_rows}
+use Rattle.mck_word.specs.Maps.{Map, at, no_rows}
 use Rattle.mck_word.specs.contracts.Access as access
 use Rattle.mck_word.specs.contracts.Frame as frame
+use Rattle.offer_laws.specs.ChangeFits.{ChangeFits, MemoryFits}
 use Rattle.offer_laws.specs.Small.{Small}
 use Rattle.page_pins.specs.contracts.Pin as pin
 use Rattle.std.proofs.Common.{ap, arith, refl}
@@ -146,6 +149,18 @@ coherent-told pair t = record {
 pub lasting-told : (pair : Pair) → Told (Lasting pair)
 lasting-told pair t = record { workers = le-told (∥∥₁_map t (λ x. x.workers)); told = λ p k c e m f. le-told (∥∥₁_map t (λ x. x.told p k c e m f)) }
 
+change-told : (c : Change) → Told (ChangeFits c)
+change-told (ChangeMap r rights) t = (le-told (∥∥₁_map t (λ x. x.0)), le-told (∥∥₁_map t (λ x. x.1)))
+change-told (Unmap r) t = le-told t
+change-told (Protect r rights) t = le-told t
+change-told (Brk a) t = le-told t
+
+memory-told : (processes : Map Process) (threads : Map Thread) → Told (MemoryFits processes threads)
+memory-told processes threads t = record {
+  heaps = λ p x e. le-told (∥∥₁_map t (λ y. y.heaps p x e));
+  changes = λ k c e. change-told c (∥∥₁_map t (λ y. y.changes k c e));
+}
+
 pub small-told : (pair : Pair) → Told (Small pair)
 small-told pair t = record {
   cores = le-told (∥∥₁_map t (λ x. x.cores));
@@ -155,4 +170,5 @@ small-told pair t = record {
   processes = le-told (∥∥₁_map t (λ x. x.processes));
   positive = bool-told (∥∥₁_map t (λ x. x.positive));
   limit = le-told (∥∥₁_map t (λ x. x.limit));
+  memory = memory-told pair.node.processes pair.node.threads (∥∥₁_map t (λ x. x.memory));
 }

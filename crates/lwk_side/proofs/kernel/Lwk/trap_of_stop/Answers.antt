@@ -10,10 +10,12 @@ use Rattle.lwk_side.proofs.Planned.{raises-signal, signal-there}
 use Rattle.lwk_side.proofs.kernel.Lwk.trap_of_stop.Goals as goal
 use Rattle.lwk_side.specs.Built.{begins_at, is_built_call, is_built_stop, names_delegated}
 use Rattle.lwk_side.specs.Cloning.{forks_at, names_fork}
+use Rattle.lwk_side.specs.Changing.{HasTrappedRoom}
 use Rattle.lwk_side.specs.Shown.{here_of}
+use Rattle.lwk_views.specs.Views.{seen}
 use Rattle.mck_word.specs.declared.Regs.{Regs}
-use Rattle.std.proofs.Common.{ap, sym, ◌∙◌}
-use Rattle.std.specs.Prelude.{Some}
+use Rattle.std.proofs.Common.{ap, subst, sym, ◌∙◌}
+use Rattle.std.specs.Prelude.{Some, length}
 
 pub call-requires-clause-built : goal.call-requires-clause-built
 call-requires-clause-built g c =
@@ -35,22 +37,35 @@ pub call-requires-clause-no_fork : goal.call-requires-clause-no_fork
 call-requires-clause-no_fork g c =
     ap names_fork (c.regs-regs.ensures root_only)
     ∙ ap (λ (s : Stop). forks_at (thread_of (node_of c.args.self.now.node root_only) c.args.t.0).regs (Some s)) (sym c.in-Ecall.is) ∙ c.requires.no_fork root_only
+pub call-requires-clause-change : goal.call-requires-clause-change
+call-requires-clause-change g c = λ files.
+    let lwk = c.args.self.now in
+    let own = c.args.task.now.space in
+    let t = c.args.t.0 in
+    let free = length lwk.pool.free in
+    let v = seen (g.T.PageTable.rows own.table) lwk.node lwk.frames files in
+    let made = ap (λ (s : Stop). trap_of_stop t free v (Some s)) c.in-Ecall.is ∙ ap (λ (x : Regs). planned t free x (past_ecall t v) (plan (reg x 17) (arguments_of x))) (sym (c.regs-regs.ensures files)) in
+    subst (λ (x : Trapped). HasTrappedRoom (g.T.PageTable.has_room own.table) own.areas.spare c.args.p.0 x) made (c.requires.change files)
 
 pub raises_signal-requires-clause-signal : goal.raises_signal-requires-clause-signal
 raises_signal-requires-clause-signal g c =
     signal-there (reg (thread_of (node_of c.args.self.now.node root_only) c.args.t.0).regs 17) c.args.stop (c.requires.built root_only) (λ e. absurd (c.in_default.not-Ecall e))
 
 pub returns-in-Ecall-clause-after : goal.returns-in-Ecall-clause-after
-returns-in-Ecall-clause-after g c = λ r p free.
+returns-in-Ecall-clause-after g c = λ r.
+    let p = c.args.p.0 in
     let h = here_of c.args.self.now (g.T.PageTable.rows c.args.task.now.space.table) c.args.task.now c.args.channel.now r in
     let t = c.args.t.0 in
-    c.call.ensures.after r p free
+    let free = length h.free in
+    c.call.ensures.after r
     ∙ ap (λ (x : Regs). trapped p t (planned t free x (past_ecall t (view_here h)) (plan (reg x 17) (arguments_of x))) h) (c.regs-regs.ensures r.files)
     ∙ ap (λ (s : Stop). trapped p t (trap_of_stop t free (view_here h) (Some s)) h) (sym c.in-Ecall.is)
 
 pub returns-in_default-clause-after : goal.returns-in_default-clause-after
-returns-in_default-clause-after g c = λ r p free.
+returns-in_default-clause-after g c = λ r.
+    let p = c.args.p.0 in
     let h = here_of c.args.self.now (g.T.PageTable.rows c.args.task.now.space.table) c.args.task.now c.args.channel.now r in
     let t = c.args.t.0 in
+    let free = length h.free in
     c.raises_signal.ensures.after c.args.channel.now r
     ∙ ap (λ (x : Trapped). trapped p t x h) (sym (raises-signal t free (reg (thread_of (node_of c.args.self.now.node root_only) t).regs 17) (view_here h) c.args.stop (c.requires.built root_only) (λ e. absurd (c.in_default.not-Ecall e))))
