@@ -5,18 +5,18 @@ use Rattle.hybrid_model.specs.Sides.{Row}
 use Rattle.hybrid_model.specs.Spaces.{Space, copied_pages, frame_bytes, page_at_lowest, shown_row}
 use Rattle.isa_model.specs.Memory.{Memory}
 use Rattle.lwk_tables.proofs.BytesRead.{at-row, frame-bytes}
-use Rattle.lwk_tables.proofs.Lowest.{fewer, lowest-first}
+use Rattle.lwk_tables.proofs.Lowest.{lowest-first}
 use Rattle.lwk_tables.proofs.OnePage.{first-is, frames-set, rest-is}
 use Rattle.lwk_tables.proofs.RowSets.{present-put}
 use Rattle.lwk_tables.specs.Copies.{from_on}
 use Rattle.lwk_tables.specs.Frames.{frames_map}
 use Rattle.lwk_tables.specs.Lacks.{memory}
-use Rattle.lwk_tables.specs.Rows.{FramesTaken}
+use Rattle.lwk_tables.specs.Rows.{FramesIn, FramesTaken}
 use Rattle.mck_word.specs.EachLaws.{at-each}
 use Rattle.mck_word.specs.Lists.{member, tail}
-use Rattle.mck_word.specs.MapLaws.{at-cut, at-keep, at-none, same_rows}
+use Rattle.mck_word.specs.MapLaws.{at-cut, at-keep, at-none, at-put, same_rows}
 use Rattle.mck_word.specs.Maps.{Map, at, count, cut, entries, no_rows, put}
-use Rattle.std.proofs.Common.{ap, arith, refl, sym, ◌∙◌}
+use Rattle.std.proofs.Common.{ap, arith, refl, subst, sym, ◌∙◌}
 use Rattle.std.proofs.lemmas.Bool.Decides.{nat_tests}
 use Rattle.std.proofs.lemmas.List.{append-nil, drop_all, take_all}
 use Rattle.std.specs.FinMap as finmap
@@ -81,15 +81,16 @@ module _ {V : Type 0} where
           go true e = none j (grind (arith, nat_tests, e)) k
           go false e = refl
 
-  pub less-left : (low page : ℕ) (m : Map V) (v : V) → at m page ≡ Some v → low ≤ page → ((j : ℕ) → low ≤ j → j < page → at m j ≡ None) → count (from_on (page + 1) m) < count (from_on low m)
+  pub less-left : (low page : ℕ) (m : Map V) (v : V) → at m page ≡ Some v → low ≤ page → ((j : ℕ) → low ≤ j → j < page → at m j ≡ None) → count (from_on low m) ≡ count (from_on (page + 1) m) + 1
   less-left low page m v there l none =
-      let a = fewer (from_on low m) page v (from-at low page m l ∙ there) in
-      let b = ap (λ (n : Map V). count n) (one-less low page m l none) in
-      omega (arith, a, b)
+      finmap.len-entries (from_on low m) ∙ ap length (first-left low page m v there l none) ∙ (let a = finmap.len-entries (from_on (page + 1) m) in omega (arith, a))
 
   without-entries : (es : List (ℕ × V)) → length es ≡ 0 → es ≡ []
   without-entries [] e = refl
   without-entries (x ∷ xs) e = absurd (omega (arith, e))
+
+  pub count-none : (low : ℕ) (m : Map V) → ((j : ℕ) → low ≤ j → at m j ≡ None) → count (from_on low m) ≡ 0
+  count-none low m none = ap (λ (n : Map V). count n) (from-none low m none) ∙ finmap.len-empty nat_cmp V
 
   none-left : (low : ℕ) (m : Map V) → ((j : ℕ) → low ≤ j → at m j ≡ None) → entries (from_on low m) ≡ []
   none-left low m none = ap (λ (n : Map V). entries n) (from-none low m none) ∙ without-entries (entries (no_rows {V = V})) (sym (finmap.len-entries (no_rows {V = V})) ∙ finmap.len-empty nat_cmp V)
@@ -144,6 +145,14 @@ taken-tail rows pool h = λ k w e. ((h k w e).0, go pool.free w.0.0 (h k w e).1)
     go : (free : List ℕ) (g : ℕ) → member g free ≡ false → member g (tail free) ≡ false
     go [] g e = e
     go (x ∷ xs) g e = rest (x == g) (member g xs) e
+
+-- a row with a frame of the memory more
+pub inside-put : (rows : Map Row) (before after : List (List ℕ)) (page : ℕ) (w : Row) → length before ≡ length after → w.0.0 < length before → FramesIn rows before → FramesIn (put rows page w) after
+inside-put rows before after page w same l h = λ k v e. go k v (k == page) (sym (at-put rows page w k) ∙ e)
+  where
+    go : (k : ℕ) (v : Row) (b : Bool) → cond b (Some w) (at rows k) ≡ Some v → v.0.0 < length after
+    go k v true e = let g : w ≡ v = cc in subst (λ (x : Row). x.0.0 < length after) g (omega (arith, same, l))
+    go k v false e = let a = h k v e in omega (arith, a, same)
 
 pub none-free : (free : List ℕ) → slice_get free 0 ≡ None → length free ≡ 0
 none-free [] e = refl

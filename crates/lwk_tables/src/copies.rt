@@ -35,6 +35,7 @@ fn copy_pages<T: PageTable>(from: &T, table: &mut T, mem: &mut FrameMem, pool: &
     requires frames { pool.old.frames ≡ length mem.old }
     ensures after { space (T.rows table.new) mem.new pool.new ≡ copied_pages (entries (memory (T.rows from.now) mem.old)) (space no_rows mem.old pool.old) }
     ensures pages { (p : ℕ) → is_some (at (T.rows table.new) p) ≡ is_some (at (T.rows from.now) p) }
+    ensures inside { FramesIn (T.rows table.new) mem.new }
     ensures pool { pool.new.frames ≡ pool.old.frames }
     ensures mem { length mem.new ≡ length mem.old }
 {
@@ -52,7 +53,29 @@ fn copy_pages<T: PageTable>(from: &T, table: &mut T, mem: &mut FrameMem, pool: &
     }
 }
 
+/// How many pages a table has.
+fn count_rows<T: PageTable>(table: &T) -> u64
+    ensures { result ≡ count (T.rows table.now) }
+{
+    let mut pages = 0;
+    let mut from = 0;
+    while let Some(page) = table.next(from) {
+        // A page that is present is below 2^27.
+        let _row = table.get(page);
+        pages += 1;
+        from = page + 1;
+    }
+    pages
+}
+
 impl<T: PageTable> Space<T> {
+    /// How many pages there are.
+    pub fn count_pages(&self) -> u64
+        ensures { result ≡ count (T.rows self.now.table) }
+    {
+        count_rows(&self.table)
+    }
+
     /// The mapped pages as ranges. They end at 2^27 at most, since the last page of each has a row.
     fn mapped(&self) -> &[PageRange]
         ensures same { result.now ≡ self.now.areas.ranges }
@@ -88,6 +111,7 @@ impl<T: PageTable> Space<T> {
         ensures after { space (T.rows self.new.table) mem.new pool.new ≡ copied_pages (entries (memory (T.rows from.now.table) mem.old)) (space no_rows mem.old pool.old) }
         ensures areas { self.new.areas.ranges ≡ from.now.areas.ranges }
         ensures brk { self.new.areas.program_break ≡ from.now.areas.program_break }
+        ensures inside { FramesIn (T.rows self.new.table) mem.new }
         ensures pool { pool.new.frames ≡ pool.old.frames }
         ensures mem { length mem.new ≡ length mem.old }
     {

@@ -1,13 +1,13 @@
 use Rattle.frame_pool.specs.Pools.{Pool}
 use Rattle.hybrid_model.specs.Sides.{Row}
 use Rattle.hybrid_model.specs.Spaces.{copied_pages}
-use Rattle.lwk_tables.proofs.Copied.{absent-above, copied-all, copied-more, copied-none, copied-pages, copied-step, from-zero, less-left, none-copied, none-free, not-first, others-kept, taken-tail}
+use Rattle.lwk_tables.proofs.Copied.{absent-above, copied-all, copied-more, copied-none, copied-pages, copied-step, from-zero, inside-put, less-left, none-copied, none-free, not-first, others-kept, taken-tail}
 use Rattle.lwk_tables.proofs.Lowest.{no-some}
 use Rattle.lwk_tables.proofs.copies.copy_pages.Goals as goal
 use Rattle.lwk_tables.specs.Copies.{from_on}
 use Rattle.lwk_tables.specs.Frames.{space}
 use Rattle.lwk_tables.specs.Lacks.{memory}
-use Rattle.lwk_tables.specs.Rows.{FramesTaken}
+use Rattle.lwk_tables.specs.Rows.{FramesIn, FramesTaken}
 use Rattle.mck_word.specs.MapLaws.{at-none}
 use Rattle.mck_word.specs.declared.Frame.{Frame}
 use Rattle.mck_word.specs.Maps.{Map, at, count, entries}
@@ -28,6 +28,7 @@ loop-page-init g c =
       enough = (let a = ap (λ (m : Map Row). count m) (from-zero rows) in let b = c.requires.enough in omega (arith, a, b));
       room = c.requires.room;
       pages = λ p. ap (λ (m : Map Row). is_some (at m p)) c.requires.empty ∙ ap is_some (at-none {V = Row} p) ∙ sym (none-copied (is_some (at rows p)) p);
+      inside = λ k w e. absurd (let off = sym (ap (λ (m : Map Row). at m k) c.requires.empty ∙ at-none {V = Row} k) ∙ e in cc);
       pool = refl;
       mem = refl;
     }
@@ -84,6 +85,8 @@ loop-page-preserved g c =
       enough = (let a = less-left low page rows w there next.low next.least in let b = was.enough in let d = ap (λ (p : Pool). length p.free) c.take.ensures.rest in let e = length-drop 1 c.loop-page.pool.free in omega (arith, a, b, d, e));
       room = (let room = was.room in (room.0, c.insert.ensures.keeps room.0 (room.2 page (ap is_some there)) room.1, room.2));
       pages = λ p. ap (λ (m : Map Row). is_some (at m p)) c.insert.ensures.row ∙ copied-more table rows low was.pages page (record { 0 = f }, w.1) next.low (ap is_some there) next.least p;
+      inside = subst (λ (m : Map Row). FramesIn m c.copy_frame.new.mem) (sym c.insert.ensures.row)
+          (inside-put table c.loop-page.mem c.copy_frame.new.mem page (record { 0 = f }, w.1) (sym (ap length c.copy_frame.ensures ∙ length-set c.loop-page.mem f (slice_index_or c.loop-page.mem w.0.0 []))) frames was.inside);
       pool = ap (λ (p : Pool). p.frames) c.take.ensures.rest ∙ was.pool;
       mem = ap length c.copy_frame.ensures ∙ length-set c.loop-page.mem f (slice_index_or c.loop-page.mem w.0.0 []) ∙ was.mem;
     }

@@ -4,7 +4,7 @@ use Rattle.lwk_tables.proofs.copies.copy_pages.Given as goal
 use Rattle.lwk_tables.specs.Copies.{RoomForRows, from_on}
 use Rattle.lwk_tables.specs.Frames.{space}
 use Rattle.lwk_tables.specs.Lacks.{memory}
-use Rattle.lwk_tables.specs.Rows.{FramesTaken}
+use Rattle.lwk_tables.specs.Rows.{FramesIn, FramesTaken}
 use Rattle.mck_word.specs.Maps.{at, count, entries, no_rows}
 use Rattle.std.specs.Prelude.{Some, [], is_some, length, nat_lt, slice_index_or, ℕ, ◌&&◌, ◌-◌, ◌^◌, ◌≡◌, ◌≤◌}
 
@@ -18,6 +18,7 @@ invariant-loop-page g l = record {
   enough : count (from_on l.low (g.T.PageTable.rows l.from)) ≤ length l.pool.free;
   room : RoomForRows (g.T.PageTable.has_room l.table) (g.T.PageTable.rows l.from);
   pages : (p : ℕ) → is_some (at (g.T.PageTable.rows l.table) p) ≡ (is_some (at (g.T.PageTable.rows l.from) p) && nat_lt p l.low);
+  inside : FramesIn (g.T.PageTable.rows l.table) l.mem;
   pool : l.pool.frames ≡ l.fn.pool.frames;
   mem : length l.mem ≡ length l.fn.mem;
 }
