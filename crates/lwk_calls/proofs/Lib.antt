@@ -3,3 +3,4 @@ pub mod Refusing
 pub mod Waking
 pub mod Told
 pub mod Begun
+pub mod Children

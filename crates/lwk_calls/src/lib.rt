@@ -3,12 +3,14 @@
 //! Promises: each call is the word of its name in kernel_model's specs (LocalCalls, CloneCalls, Calls), as `Did` of lwk_views says it:
 //! the node, the answer and the stores are the word's. No call takes memory or fails: clone and futex ask for room for one thread or one
 //! sleeper, the others lessen no room. What coherence gives the caller (the thread lives, it sleeps nowhere, fewer than sixteen sleep
-//! at an address) stands as a condition where it is needed. The calls on signals, and a clone that makes a process, are made elsewhere.
+//! at an address) stands as a condition where it is needed. Of a fork `begins_child` is the caller's part, and `tells_child` what is
+//! stored in the child's memory; the copy of the memory, the sharing of the files, and the calls on signals are made elsewhere.
 #![tactic(auto)]
 
 mod answering;
 mod cloning;
 mod endings;
+mod forking;
 mod futexes;
 mod numbers;
 mod own;
@@ -16,6 +18,7 @@ mod waiting;
 
 pub use cloning::clone;
 pub use endings::{exits, exits_group};
+pub use forking::{are_fork_flags, begins_child, fork_refusal, tells_child};
 pub use futexes::futex;
 pub use own::{answers_zero, getpid, getppid, gettid, sets_clear_address, sets_robust_list};
 pub use waiting::{wait4, waited};
