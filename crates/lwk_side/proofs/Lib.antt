@@ -6,3 +6,4 @@ mod Dispatched
 mod Behind
 mod Planned
 mod Cloned
+mod Born

@@ -1,5 +1,6 @@
 pub mod Built
 pub mod Cloning
+pub mod Forked
 pub mod Heads
 pub mod Marks
 pub mod Reaped

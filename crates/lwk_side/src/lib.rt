@@ -7,6 +7,7 @@
 mod answers;
 mod begun;
 mod clones;
+mod forks;
 mod intake;
 mod interrupts;
 mod kernel;
