@@ -14,7 +14,7 @@ use Rattle.std.specs.Prelude.{Bool, List, cond, false, pos, true, ℕ, ℤ, ◌�
 
 module _ (rows : Map Row) (pages : List (List ℕ)) where
   -- a number is stored, where it is asked for and may be
-  tells : (asked : Bool) (address n : ℕ) (k : KernelNode) (left next : List (List ℕ)) (v : View) → memory rows next ≡ told asked address n (memory rows left) → Stands rows pages k left v
+  pub tells : (asked : Bool) (address n : ℕ) (k : KernelNode) (left next : List (List ℕ)) (v : View) → memory rows next ≡ told asked address n (memory rows left) → Stands rows pages k left v
       → Stands rows pages k next (cond asked (try_store address (little_endian 4 n) v) v)
   tells true address n k left next v e h = tries rows pages address (little_endian 4 n) k left next v e h
   tells false address n k left next v e h = record { began = h.began; now = h.now; stored = e ∙ h.stored }

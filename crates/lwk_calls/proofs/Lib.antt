@@ -8,3 +8,4 @@ pub mod Acting
 pub mod Delivering
 pub mod Sending
 pub mod Pending
+pub mod Children

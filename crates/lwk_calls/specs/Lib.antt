@@ -1,2 +1,3 @@
 pub mod Words
 pub mod SignalWords
+pub mod Forks

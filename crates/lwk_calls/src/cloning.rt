@@ -1,6 +1,6 @@
 // clone: a thread beside the caller.
 ghost use Rattle.file_model.specs.Files.{Files};
-ghost use Rattle.kernel_model.specs.CloneCalls.{are_clone_flags, are_fork_flags, clone, clones};
+ghost use Rattle.kernel_model.specs.CloneCalls.{are_clone_flags, clone, clones};
 ghost use Rattle.kernel_model.specs.Nodes.{has_thread, most_threads, thread_of, threads_of};
 ghost use Rattle.lwk_calls.specs.Words.{clone_refusal};
 ghost use Rattle.lwk_node.specs.Shown.{node_of};
@@ -21,11 +21,6 @@ const MOST_THREADS: u32 = 16;
 // The flags that have to stand, SYSVSEM, SETTLS, PARENT_SETTID, CHILD_CLEARTID, one that is ignored, and CHILD_SETTID.
 const KNOWN_FLAGS: u64 = 0x17d_0f00;
 
-// The signal of a child's end, and with it SETTLS, PARENT_SETTID, CHILD_CLEARTID and CHILD_SETTID.
-const CHILD_SIGNAL: u64 = 17;
-
-const FORK_FLAGS: u64 = 0x138_0011;
-
 // Bits of the flags.
 const PARENT_SETTID: u32 = 20;
 
@@ -41,13 +36,6 @@ fn are_clone_flags(flags: u64) -> bool
         && has_bit(11, flags)
         && has_bit(16, flags)
         && minus(flags, KNOWN_FLAGS) == 0
-}
-
-/// Whether the flags are those of a fork: the signal that a child's end sends, and nothing beside what a fork takes.
-pub fn are_fork_flags(flags: u64) -> bool
-    ensures { result ≡ are_fork_flags flags }
-{
-    flags % 256 == CHILD_SIGNAL && minus(flags, FORK_FLAGS) == 0
 }
 
 /// Why a clone is refused in a process of so many threads.

@@ -8,3 +8,4 @@ mod Planned
 mod Cloned
 mod Changing
 mod Acked
+mod Born

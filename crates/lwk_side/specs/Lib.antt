@@ -2,6 +2,7 @@ pub mod Acks
 pub mod Built
 pub mod Cloning
 pub mod Changing
+pub mod Forked
 pub mod Heads
 pub mod Marks
 pub mod Reaped

@@ -6,3 +6,5 @@ pub mod OnePage
 pub mod RowSets
 pub mod WrittenBack
 mod Lowest
+pub mod Copied
+mod Mapped

@@ -1,3 +1,4 @@
+pub mod Copies
 pub mod Fills
 pub mod Frames
 pub mod Lacks

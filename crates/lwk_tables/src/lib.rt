@@ -1,15 +1,17 @@
 //! The space of a process: its page table, its mapped pages and its break, over the frames of the node.
 //!
-//! Promises: `map`, `unmap` and `protect` are the definitions' changes of a space, page by page (hybrid_model's specs/Spaces), and
-//! `map_bytes` adds pages with given bytes (specs/Fills); `read` and `write` are the bytes of the memory that the table shows
-//! (isa_model's specs/Memory), all or nothing, and name the first page that lacks (specs/Lacks); the mapped pages are those of the
-//! table. Stores change the frames as the memory that the table shows, written back, does (`stores_are_written_back`). No call but
-//! `make_room` and `reserve` takes memory or fails. The conditions on rows, frames and room stand in specs/Rows.
+//! Promises: `map`, `unmap` and `protect` are the definitions' changes of a space, page by page (hybrid_model's specs/Spaces);
+//! `map_bytes` adds pages with given bytes (specs/Fills), and `copy_space` those of another space, each at the lowest free frame;
+//! `read` and `write` are the bytes of the memory that the table shows (isa_model's specs/Memory), all or nothing, and name the first
+//! page that lacks (specs/Lacks); the mapped pages are those of the table. Stores change the frames as the memory that the table shows,
+//! written back, does (`stores_are_written_back`). No call but `make_room`, `reserve` and `reserve_copy` takes memory or fails. The
+//! conditions on rows, frames and room stand in specs/Rows and specs/Copies.
 #![tactic(auto)]
 
 mod bytes;
 mod changes;
 mod clears;
+mod copies;
 mod fills;
 mod laws;
 
@@ -262,6 +264,25 @@ mod tests {
             space.set_brk(0x1_2345);
             assert_eq!(rt; space.areas().brk_of(), 0x1_2345);
             assert_eq!(rt; space.table().get(16), None);
+        }
+    }
+
+    #[test]
+    fn a_copy_of_an_empty_space(rt: HostRuntime) {
+        let made: Result<PageMap, NoMemory> = PageTable::empty(rt.alloc());
+        let other: Result<PageMap, NoMemory> = PageTable::empty(rt.alloc());
+        let frames = FrameMem::new(rt.alloc(), 2);
+        let pool = FramePool::new(rt.alloc(), 2);
+        if let (Ok(table), Ok(other), Ok(mut mem), Ok(mut pool)) = (made, other, frames, pool) {
+            let mut space = Space::new(rt.alloc(), table);
+            space.set_brk(0x1_2345);
+            let mut copy = Space::new(rt.alloc(), other);
+            let room = copy.reserve_copy(&space).is_ok();
+            assert!(rt; room);
+            copy.copy_space(&space, &mut mem, &mut pool);
+            assert_eq!(rt; copy.areas().brk_of(), 0x1_2345);
+            assert_eq!(rt; copy.table().next(0), None);
+            assert_eq!(rt; pool.free(), 2);
         }
     }
 }

@@ -1,10 +1,11 @@
 //! The mapped pages of a process as ranges, and its break.
 //!
 //! Promises: `cover` and `split` add and take out a range's pages and leave all others; `gap` is the highest gap below 0x3f00000000 and
-//! from 0x10000 on, None exactly where there is none. What takes memory is apart from them. The ranges rise and do not meet
-//! (specs/Ranges), and specs/Gaps says what a gap is.
+//! from 0x10000 on, None exactly where there is none; `copy_from` has the pages and the break of another process. What takes memory is
+//! apart from them. The ranges rise and do not meet (specs/Ranges), and specs/Gaps says what a gap is.
 #![tactic(auto)]
 
+mod copies;
 mod ranges;
 
 ghost use Rattle.mck_word.specs.Pages.{in_range, in_ranges};
@@ -141,6 +142,25 @@ mod tests {
                 hi: 0x3f0_0000,
             });
             assert!(rt; areas.gap(1) != Some(0x3ef_ffff));
+        }
+    }
+
+    #[test]
+    fn a_copy(rt: HostRuntime) {
+        let mut areas = Areas::new(rt.alloc());
+        let mut copy = Areas::new(rt.alloc());
+        if areas.reserve(1).is_ok() {
+            areas.cover(PageRange {
+                lo: 0x3ef_fffe,
+                hi: 0x3f0_0000,
+            });
+            areas.set_brk(72);
+            if copy.reserve_copy(&areas).is_ok() {
+                copy.copy_from(&areas);
+                assert_eq!(rt; copy.ranges().len(), areas.ranges().len());
+                assert_eq!(rt; copy.brk_of(), 72);
+                assert!(rt; copy.gap(1) != Some(0x3ef_ffff));
+            }
         }
     }
 }
