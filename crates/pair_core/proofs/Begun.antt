@@ -2,7 +2,7 @@
 use Rattle.file_model.specs.Files.{Files}
 use Rattle.lwk_node.specs.Shown.{node_of}
 use Rattle.lwk_node.specs.declared.tables.Node.{Node}
-use Rattle.hybrid_model.specs.Lwk.{after_trap, begin_call, ran_last, trapped, view_here}
+use Rattle.hybrid_model.specs.Lwk.{after_trap, begin_call, trapped, view_here}
 use Rattle.hybrid_model.specs.Pairs.{Here, ring_of}
 use Rattle.hybrid_model.specs.Rings.{ring}
 use Rattle.isa_model.specs.Registers.{reg}
@@ -17,9 +17,9 @@ use Rattle.lwk_side.specs.Built.{begins_at, begins_call, is_delegated}
 use Rattle.mck_word.specs.declared.Regs.{Regs}
 use Rattle.pair_core.proofs.KernelFacts.{post-longer}
 use Rattle.pair_core.proofs.Posting.{Posts}
-use Rattle.std.proofs.Common.{ap, arith, refl, sym, ◌∙◌}
+use Rattle.std.proofs.Common.{ap, arith, refl, ◌∙◌}
 use Rattle.std.proofs.lemmas.Bool.Decides.{nat_tests}
-use Rattle.std.specs.Prelude.{List, None, Option, Some, length, not, true, ℕ, ◌+◌, ◌<◌, ◌==◌, ◌≡◌}
+use Rattle.std.specs.Prelude.{List, None, Option, Some, length, not, true, ℕ, ◌<◌, ◌==◌, ◌≡◌}
 
 module _ (t free : ℕ) (v : View) where
   abbrev regs : Regs

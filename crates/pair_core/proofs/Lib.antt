@@ -15,3 +15,4 @@ pub mod Taken
 pub mod Posting
 pub mod Begun
 pub mod MayKernel
+pub mod Memory

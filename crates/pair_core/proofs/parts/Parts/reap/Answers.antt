@@ -3,7 +3,7 @@ use Rattle.lwk_side.specs.Shown.{Rest, here_of}
 use Rattle.pair_core.proofs.Found.{after-is, has-row}
 use Rattle.pair_core.proofs.KernelFacts.{kept-after, sound-table}
 use Rattle.pair_core.proofs.parts.Parts.reap.Goals as goal
-use Rattle.pair_core.specs.Shown.{here_in, rest_of}
+use Rattle.pair_core.specs.Shown.{rest_of}
 use Rattle.proxy_worker.specs.Shown.{turns_of}
 use Rattle.std.proofs.Common.{ap, refl, ◌∙◌}
 

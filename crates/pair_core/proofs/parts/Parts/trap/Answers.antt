@@ -1,17 +1,19 @@
-use Rattle.hybrid_laws.specs.Tests.{both, not-true}
-use Rattle.hybrid_model.specs.Pairs.{side_of}
+use Rattle.hybrid_laws.specs.Tests.{both}
 use Rattle.hybrid_model.specs.Sides.{Side as SideOf}
 use Rattle.hybrid_model.specs.declared.events.Event.TheVariants.{Trap}
-use Rattle.lwk_node.specs.Shown.{node_of}
+use Rattle.kernel_model.specs.Traps.{trap}
+use Rattle.lwk_side.specs.Changing.{HasTrappedRoom}
+use Rattle.lwk_views.specs.Views.{seen}
 use Rattle.mck_word.specs.Maps.{at}
 use Rattle.pair_core.proofs.Begun.{begins-any, begun-posts, no-futex}
 use Rattle.pair_core.proofs.Found.{after-is, has-row}
 use Rattle.pair_core.proofs.KernelFacts.{kept-after, process-is, side-is, sound-table, wired}
+use Rattle.pair_core.proofs.Memory.{heap-in}
 use Rattle.pair_core.proofs.Posting.{own-ring, place-of}
 use Rattle.pair_core.proofs.parts.Parts.trap.Goals as goal
 use Rattle.pair_core.specs.Shown.{here_in, pair_of, rest_of}
-use Rattle.std.specs.Prelude.{ℕ}
-use Rattle.std.proofs.Common.{ap, arith, refl, sym, ◌∙◌}
+use Rattle.std.specs.Prelude.{length, ℕ}
+use Rattle.std.proofs.Common.{ap, arith, refl, subst, sym, ◌∙◌}
 
 pub row_mut-side-requires : goal.row_mut-side-requires
 row_mut-side-requires g c =
@@ -46,6 +48,10 @@ trap-requires g c =
       more = omega (arith, next, own);
       rest = λ files e. absurd (no-futex _ (both _ _ (c.requires.built files)).1 e);
       built = λ files. (both _ _ (c.requires.built files)).0;
+      own = λ files. sym (c.process_of_thread-p.ensures files);
+      heap = heap-in g.T.PageTable.rows g.F.FileStore.files x sound p;
+      change = λ files. subst (λ (q : ℕ). HasTrappedRoom (g.T.PageTable.has_room s.task.space.table) s.task.space.areas.spare q (trap t (length x.lwk.pool.free) (seen (g.T.PageTable.rows s.task.space.table) x.lwk.node x.lwk.frames files))) process
+          (c.requires.room.change s (ap (λ (q : ℕ). at x.sides.map q) process ∙ there) files);
     }
 
 pub returns-clause-after : goal.returns-clause-after
