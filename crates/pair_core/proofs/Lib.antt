@@ -17,3 +17,4 @@ pub mod Begun
 pub mod MayKernel
 pub mod Sleepers
 pub mod Clones
+pub mod Memory

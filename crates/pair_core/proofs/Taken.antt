@@ -17,7 +17,6 @@ use Rattle.mck_word.specs.declared.Access.{Access}
 use Rattle.mck_word.specs.declared.Req.{Req}
 use Rattle.offer_laws.specs.Small.{NumbersFit}
 use Rattle.pair_core.proofs.Fetched.{first-some}
-use Rattle.pair_core.specs.KernelRoom.{IsBuilt}
 use Rattle.std.proofs.Common.{ap, arith, refl, subst, sym, ◌∙◌}
 use Rattle.std.specs.Prelude.{List, None, Some, [], option_map, ℕ, ℤ, ◌<◌, ◌∷◌, ◌≡◌, ◌≤◌}
 
@@ -38,19 +37,19 @@ pub leaves-empty : (p : ℕ) (ms : List Msg) (h : Here) → head_of ms ≡ None 
 leaves-empty p [] h e = refl
 leaves-empty p (m ∷ ms) h e = absurd (grind (arith, e))
 
-leaves-first : (p : ℕ) (m : Msg) (ms : List Msg) (h : Here) → IsBuilt (Some m) → ((q : Req) (code : ℤ) → m ≡ Reply q code → ⊥) → ((w page : ℕ) (a : Access) → m ≡ Fault w page a → ⊥) → h ≡ intake p (m ∷ ms) h
-leaves-first p (Request c) ms h built reply fault = refl
-leaves-first p (Clear r) ms h built reply fault = refl
-leaves-first p (Answer w page number row) ms h built reply fault = refl
-leaves-first p (Interrupt q place) ms h built reply fault = refl
-leaves-first p (Reply q code) ms h built reply fault = absurd (reply q code refl)
-leaves-first p Ack ms h built reply fault = absurd built
-leaves-first p (Fault w page a) ms h built reply fault = absurd (fault w page a refl)
+leaves-first : (p : ℕ) (m : Msg) (ms : List Msg) (h : Here) → (m ≡ Ack → ⊥) → ((q : Req) (code : ℤ) → m ≡ Reply q code → ⊥) → ((w page : ℕ) (a : Access) → m ≡ Fault w page a → ⊥) → h ≡ intake p (m ∷ ms) h
+leaves-first p (Request c) ms h ack reply fault = refl
+leaves-first p (Clear r) ms h ack reply fault = refl
+leaves-first p (Answer w page number row) ms h ack reply fault = refl
+leaves-first p (Interrupt q place) ms h ack reply fault = refl
+leaves-first p (Reply q code) ms h ack reply fault = absurd (reply q code refl)
+leaves-first p Ack ms h ack reply fault = absurd (ack refl)
+leaves-first p (Fault w page a) ms h ack reply fault = absurd (fault w page a refl)
 
-pub leaves-other : (p : ℕ) (ms : List Msg) (m : Msg) (h : Here) → head_of ms ≡ Some m → IsBuilt (head_of ms) → ((q : Req) (code : ℤ) → m ≡ Reply q code → ⊥) → ((w page : ℕ) (a : Access) → m ≡ Fault w page a → ⊥) → h ≡ intake p ms h
-leaves-other p ms m h e built reply fault =
+pub leaves-other : (p : ℕ) (ms : List Msg) (m : Msg) (h : Here) → head_of ms ≡ Some m → (m ≡ Ack → ⊥) → ((q : Req) (code : ℤ) → m ≡ Reply q code → ⊥) → ((w page : ℕ) (a : Access) → m ≡ Fault w page a → ⊥) → h ≡ intake p ms h
+leaves-other p ms m h e ack reply fault =
     let x = first-some ms m e in
-    leaves-first p m x.0 h (subst IsBuilt e built) reply fault ∙ sym (ap (λ (ns : List Msg). intake p ns h) x.1)
+    leaves-first p m x.0 h ack reply fault ∙ sym (ap (λ (ns : List Msg). intake p ns h) x.1)
 
 head-each : (P : Msg → Type 0) (ms : List Msg) (m : Msg) → head_of ms ≡ Some m → Each P ms → P m
 head-each P [] m e h = absurd (grind (arith, e))

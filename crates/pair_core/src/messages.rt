@@ -1,17 +1,14 @@
 // Messages that the lightweight kernel takes and posts.
 ghost use Rattle.hybrid_model.specs.Events.{after};
 ghost use Rattle.hybrid_model.specs.Lwk.{files_after_answer};
-ghost use Rattle.hybrid_model.specs.Rings.{head_of};
 ghost use Rattle.hybrid_model.specs.Sides.{call_of, served, serves};
 ghost use Rattle.hybrid_model.specs.declared.events.Event.TheVariants.{Answer, Intake, Interrupt};
-ghost use Rattle.mck_word.specs.Maps.{at};
-ghost use Rattle.pair_core.specs.KernelRoom.{IsBuilt};
+ghost use Rattle.pair_core.specs.KernelRoom.{HasKernelRoom};
 ghost use Rattle.pair_core.specs.Kept.{Kept};
 ghost use Rattle.pair_core.specs.Ready.{Ready};
 ghost use Rattle.pair_core.specs.Shown.{pair_of};
-ghost use Rattle.pair_core.specs.declared.parts.Side.{Side as side_row};
 ghost use Rattle.proxy_worker.specs.Shown.{linux_of};
-ghost use Rattle.std.specs.Prelude.{◌≡◌, Some};
+ghost use Rattle.std.specs.Prelude.{◌≡◌};
 
 use crate::parts::Parts;
 use file_calls::store::FileStore;
@@ -51,11 +48,11 @@ fn give_back_without<F: FileStore>(
 }
 
 impl<T: PageTable + Drop, F: FileStore> Parts<T, F> {
-    /// The first message of the ring back is taken: a reply or a fault. An acknowledgement isn't built yet.
+    /// The first message of the ring back is taken: a reply, a fault, or the acknowledgement with which a round is over.
     pub fn intake(&mut self, p: Pid)
         requires ready { Ready (pair_of T.rows F.files self.old) (Intake p) }
         requires kept { Kept self.old }
-        requires built { (s : side_row T) → at self.old.sides.map p.0 ≡ Some s → IsBuilt (head_of s.channel.to_lwk.items) }
+        requires room { HasKernelRoom T.rows T.has_room F.files (Intake p) self.old }
         ensures after { pair_of T.rows F.files self.new ≡ after (pair_of T.rows F.files self.old) (Intake p) }
         ensures kept { Kept self.new }
     {
@@ -77,6 +74,7 @@ impl<T: PageTable + Drop, F: FileStore> Parts<T, F> {
                 self.lwk
                     .take_fault(&mut side.task, &mut side.channel, worker, page, access)
             }
+            Msg::Ack => self.lwk.take_ack(&mut side.task, &mut side.channel, p),
             _ => {}
         }
     }

@@ -51,7 +51,7 @@ impl<T: PageTable + Drop, F: FileStore> Parts<T, F> {
     pub fn begin_vm(&mut self, t: Tid)
         requires ready { Ready (pair_of T.rows F.files self.old) (BeginVm t) }
         requires kept { Kept self.old }
-        requires room { HasKernelRoom F.files (BeginVm t) self.old }
+        requires room { HasKernelRoom T.rows T.has_room F.files (BeginVm t) self.old }
         ensures after { pair_of T.rows F.files self.new ≡ after (pair_of T.rows F.files self.old) (BeginVm t) }
         ensures kept { Kept self.new }
     {

@@ -20,13 +20,14 @@ use page_map::PageTable;
 use std::alloc::Global;
 
 impl<T: PageTable + Drop, F: FileStore> Parts<T, F> {
-    /// The trap of a stopped thread that is no fork: the signal of its stop is raised, or its call is answered, made, or begins.
+    /// The trap of a stopped thread that is no fork: the signal of its stop is raised; its call is answered, made, or begins; or it waits for the round of
+    /// a change.
     pub fn trap(&mut self, t: Tid)
         requires ready { Ready (pair_of T.rows F.files self.old) (Trap t) }
         requires kept { Kept self.old }
         requires built { (files : Files) → is_built_trap (node_of self.old.lwk.node files) t.0 ≡ true }
         requires no_fork { (files : Files) → calls_fork (node_of self.old.lwk.node files) t.0 ≡ false }
-        requires room { HasKernelRoom F.files (Trap t) self.old }
+        requires room { HasKernelRoom T.rows T.has_room F.files (Trap t) self.old }
         ensures after { pair_of T.rows F.files self.new ≡ after (pair_of T.rows F.files self.old) (Trap t) }
         ensures kept { Kept self.new }
     {

@@ -1,30 +1,24 @@
--- What is built of the events: it makes no process, and a message that is taken is no acknowledgement.
+-- What is built of the events: it makes no process.
 use Rattle.file_model.specs.Files.{Files}
 use Rattle.hybrid_laws.specs.CallsLast.{born-is}
 use Rattle.hybrid_laws.specs.Tests.{both}
 use Rattle.hybrid_model.specs.Events.{after, after_here, may, process_of_event}
 use Rattle.hybrid_model.specs.Globals.{Coherent}
 use Rattle.hybrid_model.specs.Pairs.{Pair, here}
-use Rattle.hybrid_model.specs.Rings.{head_of}
 use Rattle.hybrid_model.specs.Sides.{Row, Side as SideOf}
-use Rattle.hybrid_model.specs.declared.events.Event.TheVariants.{Intake, Trap}
+use Rattle.hybrid_model.specs.declared.events.Event.TheVariants.{Trap}
 use Rattle.hybrid_model.specs.declared.events.Event.{Event}
-use Rattle.ikc_ring.specs.declared.Msg.TheVariants.{Ack}
-use Rattle.ikc_ring.specs.declared.Msg.{Msg}
 use Rattle.kernel_model.specs.Nodes.{Node}
 use Rattle.lwk_node.specs.Shown.{node_of}
 use Rattle.lwk_side.specs.Built.{is_built_trap}
 use Rattle.lwk_side.specs.Cloning.{calls_fork}
 use Rattle.mck_word.specs.Maps.{Map, at, keys}
-use Rattle.mck_word.specs.declared.Pid.{Pid}
 use Rattle.mck_word.specs.declared.Tid.{Tid}
-use Rattle.pair_core.proofs.KernelFacts.{side-is}
-use Rattle.pair_core.specs.KernelRoom.{IsBuilt, is_built_here}
+use Rattle.pair_core.specs.KernelRoom.{is_built_here}
 use Rattle.pair_core.specs.Shown.{pair_of}
 use Rattle.pair_core.specs.declared.parts.Parts.{Parts}
-use Rattle.pair_core.specs.declared.parts.Side.{Side}
 use Rattle.pair_node.proofs.Numbered.{keys-stay, trap-born}
-use Rattle.pair_node.specs.Built.{built, is_built_message}
+use Rattle.pair_node.specs.Built.{built}
 use Rattle.std.proofs.Common.{ap, arith, refl, subst, sym, ◌∙◌}
 use Rattle.std.proofs.lemmas.Bool.Decides.{nat_tests}
 use Rattle.std.specs.Prelude.{Bool, None, Option, Some, false, is_some, not, true, ℕ, ◌≡◌}
@@ -53,15 +47,8 @@ none-begins pair e b p = go (after_here e p (here pair p)).born refl
 pub keys-same : (pair : Pair) (e : Event) → Coherent pair → may pair e ≡ true → built pair e ≡ true → keys (after pair e).node.processes ≡ keys pair.node.processes
 keys-same pair e c m b = keys-stay pair c e m (none-begins pair e b (process_of_event pair.node e))
 
--- ---- what is built of messages and traps
-no-ack : (o : Option Msg) → is_built_message o ≡ true → IsBuilt o
-no-ack (Some Ack) e = absurd (grind (arith, e))
-no-ack _ e = tt
-
+-- ---- what is built of traps
 module _ {T F : Type 0} (rows : T → Map Row) (files : F → Files) (x : Parts T F) where
-  pub built-message : (p : Pid) → built (pair_of rows files x) (Intake p) ≡ true → (s : Side T) → at x.sides.map p.0 ≡ Some s → IsBuilt (head_of s.channel.to_lwk.items)
-  built-message p e s there = no-ack (head_of s.channel.to_lwk.items) (sym (ap (λ (side : SideOf). is_built_message (head_of side.to_lwk)) (side-is rows files x p.0 s there)) ∙ e)
-
   pub built-trap : (t : Tid) → built (pair_of rows files x) (Trap t) ≡ true → (other : Files) → is_built_trap (node_of x.lwk.node other) t.0 ≡ true
   unfolding pair_of node_of
   built-trap t e other = (both (is_built_trap (node_of x.lwk.node other) t.0) _ e).0

@@ -20,7 +20,7 @@ pub fn happen<T: PageTable + Drop, F: FileStore>(
 )
     requires ready { Ready (pair_of T.rows F.files parts.old) event }
     requires kept { Kept parts.old }
-    requires room { HasRoom T.rows F.room F.can_write F.files event parts.old }
+    requires room { HasRoom T.rows T.has_room F.room F.can_write F.files event parts.old }
     ensures after { pair_of T.rows F.files parts.new ≡ after (pair_of T.rows F.files parts.old) event }
     ensures kept { Kept parts.new }
 {

@@ -62,7 +62,7 @@ fn boot_error(error: pair_core::BootError) -> BootError
 }
 
 impl<T: PageTable + Drop> Machine for Pair<T, RowFiles> {
-    ghost has_room = { λ x e. HasRoom T.rows room_of can_write_of seen e x.parts };
+    ghost has_room = { λ x e. HasRoom T.rows T.has_room room_of can_write_of seen e x.parts };
 
     ghost built = { built };
 

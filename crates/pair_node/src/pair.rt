@@ -50,7 +50,7 @@ impl<T: PageTable + Drop, F: FileStore> Pair<T, F> {
     /// built.
     pub fn make_room(&mut self, event: &Event) -> Result<(), Refused>
         ensures state { pair_of T.rows F.files self.new.parts ≡ pair_of T.rows F.files self.old.parts }
-        ensures room { OnOk result (HasRoom T.rows F.room F.can_write F.files event.now self.new.parts) }
+        ensures room { OnOk result (HasRoom T.rows T.has_room F.room F.can_write F.files event.now self.new.parts) }
         ensures not_built { IsErrOf result NotBuilt ↔ built (pair_of T.rows F.files self.old.parts) event.now ≡ false }
     {
         if !is_built(&self.parts, *event) {
@@ -63,7 +63,7 @@ impl<T: PageTable + Drop, F: FileStore> Pair<T, F> {
     /// The event happens, for which room was made.
     pub fn apply(&mut self, event: &Event)
         requires may { may (pair_of T.rows F.files self.old.parts) event.now ≡ true }
-        requires room { HasRoom T.rows F.room F.can_write F.files event.now self.old.parts }
+        requires room { HasRoom T.rows T.has_room F.room F.can_write F.files event.now self.old.parts }
         ensures { pair_of T.rows F.files self.new.parts ≡ after (pair_of T.rows F.files self.old.parts) event.now }
     {
         happen(&mut self.parts, self.alloc, *event);

@@ -1,6 +1,6 @@
 use Rattle.hybrid_model.specs.declared.events.Event.{Event}
 use Rattle.pair_core.specs.Shown.{pair_of}
-use Rattle.pair_node.proofs.BuiltEvents.{built-fork, built-message, built-trap}
+use Rattle.pair_node.proofs.BuiltEvents.{built-fork, built-trap}
 use Rattle.pair_node.proofs.events.happen.Goals as goal
 use Rattle.pair_node.specs.Built.{built}
 use Rattle.std.proofs.Common.{subst}
@@ -15,8 +15,3 @@ pub trap-requires-clause-no_fork : goal.trap-requires-clause-no_fork
 trap-requires-clause-no_fork g c =
     let x = c.args.parts.now in
     built-fork g.T.PageTable.rows g.F.FileStore.files x c.in-Trap.t (subst (λ (e : Event). built (pair_of g.T.PageTable.rows g.F.FileStore.files x) e ≡ true) c.in-Trap.is c.requires.room.is_built)
-
-pub intake-requires-clause-built : goal.intake-requires-clause-built
-intake-requires-clause-built g c =
-    let x = c.args.parts.now in
-    built-message g.T.PageTable.rows g.F.FileStore.files x c.in-Intake.p (subst (λ (e : Event). built (pair_of g.T.PageTable.rows g.F.FileStore.files x) e ≡ true) c.in-Intake.is c.requires.room.is_built)

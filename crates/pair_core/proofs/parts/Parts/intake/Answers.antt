@@ -2,7 +2,8 @@ use Rattle.hybrid_model.specs.Lwk.{take_reply}
 use Rattle.hybrid_model.specs.Rings.{rest_of as rest}
 use Rattle.hybrid_model.specs.declared.events.Event.TheVariants.{Intake}
 use Rattle.pair_core.proofs.Found.{after-is, has-row, of-process}
-use Rattle.pair_core.proofs.KernelFacts.{kept-after}
+use Rattle.pair_core.proofs.KernelFacts.{kept-after, sound-table}
+use Rattle.pair_core.proofs.Memory.{acked-round, at-ack, fits-in, heap-in, takes-ack}
 use Rattle.pair_core.proofs.Taken.{callers-fit, fault-of-worker, leaves-empty, leaves-other, takes-fault, takes-reply}
 use Rattle.pair_core.proofs.parts.Parts.intake.Goals as goal
 use Rattle.pair_core.specs.Shown.{here_in, pair_of, rest_of, shown_side}
@@ -31,6 +32,41 @@ take_fault-requires g c =
     let k = of-process g.T.PageTable.rows g.F.FileStore.files x c.args.p.0 s c.row_mut-side.ensures.value sound.coherent in
     fault-of-worker c.args.p.0 pair (shown_side g.T.PageTable.rows s) k c.in-Fault.worker c.in-Fault.page c.in-Fault.access sound.small.workers
     (sym c.head.ensures ∙ sym c.copied.ensures ∙ c.in-Some.is ∙ ap Some c.in-Fault.is)
+
+pub take_ack-requires : goal.take_ack-requires
+unfolding pair_of
+take_ack-requires g c =
+    let x = c.args.self.now in
+    let p = c.args.p.0 in
+    let s = c.row_mut-side.result.now in
+    let rows = g.T.PageTable.rows in
+    let files = g.F.FileStore.files in
+    let pair = pair_of rows files x in
+    let there = c.row_mut-side.ensures.value in
+    let sound = c.requires.ready.sound in
+    let k = of-process rows files x p s there sound.coherent in
+    let first = sym c.head.ensures ∙ sym c.copied.ensures ∙ c.in-Some.is ∙ ap Some c.in-Ack.is in
+    record {
+      sound = sound-table rows files x p s there sound.coherent c.requires.kept;
+      acked = acked-round p pair (shown_side rows s) k first;
+      heap = heap-in rows files x sound p;
+      fits = fits-in rows files x sound;
+      room = at-ack _ s.channel.to_lwk.items first (c.requires.room s there);
+    }
+
+pub returns-in-Ack-clause-after : goal.returns-in-Ack-clause-after
+returns-in-Ack-clause-after g c =
+    let x = c.args.self.now in
+    let s = c.row_mut-side.result.now in
+    let h = here_in g.T.PageTable.rows g.F.FileStore.files x s in
+    after-is g.T.PageTable.rows g.F.FileStore.files x _ c.args.p.0 s _ (Intake c.args.p) c.row_mut-side.ensures.value refl refl
+    (c.take_ack.ensures.event (rest_of g.T.PageTable.rows g.F.FileStore.files x s)
+    ∙ takes-ack c.args.p.0 s.channel.to_lwk.items h (sym c.head.ensures ∙ sym c.copied.ensures ∙ c.in-Some.is ∙ ap Some c.in-Ack.is))
+
+pub returns-in-Ack-clause-kept : goal.returns-in-Ack-clause-kept
+returns-in-Ack-clause-kept g c =
+    kept-after g.T.PageTable.rows g.F.FileStore.files c.args.self.now _ c.args.p.0 c.row_mut-side.result.now _ (Intake c.args.p) c.requires.kept c.row_mut-side.ensures.value refl refl (returns-in-Ack-clause-after g c)
+    c.take_ack.ensures.frames.pages c.take_ack.ensures.frames.pool c.take_ack.ensures.rings.to_linux c.take_ack.ensures.rings.to_lwk
 
 pub returns-in-Reply-clause-after : goal.returns-in-Reply-clause-after
 returns-in-Reply-clause-after g c =
@@ -82,5 +118,5 @@ returns-in_default-m g c =
     let s = c.row_mut-side.result.now in
     let h = here_in g.T.PageTable.rows g.F.FileStore.files x s in
     let is = after-is g.T.PageTable.rows g.F.FileStore.files x _ c.args.p.0 s s (Intake c.args.p) c.row_mut-side.ensures.value refl refl
-    (leaves-other c.args.p.0 s.channel.to_lwk.items c.in-Some.m h (sym c.head.ensures ∙ sym c.copied.ensures ∙ c.in-Some.is) (c.requires.built s c.row_mut-side.ensures.value) c.in_default-m.not-Reply c.in_default-m.not-Fault) in
+    (leaves-other c.args.p.0 s.channel.to_lwk.items c.in-Some.m h (sym c.head.ensures ∙ sym c.copied.ensures ∙ c.in-Some.is) c.in_default-m.not-Ack c.in_default-m.not-Reply c.in_default-m.not-Fault) in
     record { after = is; kept = kept-after g.T.PageTable.rows g.F.FileStore.files x _ c.args.p.0 s s (Intake c.args.p) c.requires.kept c.row_mut-side.ensures.value refl refl is refl refl refl refl }

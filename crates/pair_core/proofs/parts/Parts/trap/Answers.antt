@@ -1,16 +1,20 @@
 use Rattle.hybrid_model.specs.Sides.{Side as SideOf}
 use Rattle.hybrid_model.specs.declared.events.Event.TheVariants.{Trap}
+use Rattle.kernel_model.specs.Traps.{trap}
+use Rattle.lwk_side.specs.Changing.{HasTrappedRoom}
+use Rattle.lwk_views.specs.Views.{seen}
 use Rattle.mck_word.specs.Maps.{at}
 use Rattle.pair_core.proofs.Begun.{begins-any, begun-posts}
 use Rattle.pair_core.proofs.Clones.{may-clone}
 use Rattle.pair_core.proofs.Found.{after-is, has-row, may-here}
 use Rattle.pair_core.proofs.KernelFacts.{kept-after, process-is, side-is, sound-table, wired}
+use Rattle.pair_core.proofs.Memory.{heap-in}
 use Rattle.pair_core.proofs.Posting.{own-ring, place-of}
 use Rattle.pair_core.proofs.Sleepers.{may-rest}
 use Rattle.pair_core.proofs.parts.Parts.trap.Goals as goal
 use Rattle.pair_core.specs.Shown.{here_in, pair_of, rest_of}
-use Rattle.std.specs.Prelude.{ℕ}
-use Rattle.std.proofs.Common.{ap, arith, refl, ◌∙◌}
+use Rattle.std.specs.Prelude.{length, ℕ}
+use Rattle.std.proofs.Common.{ap, arith, refl, subst, sym, ◌∙◌}
 
 pub row_mut-side-requires : goal.row_mut-side-requires
 row_mut-side-requires g c =
@@ -48,6 +52,10 @@ trap-requires g c =
       clone = λ files e. may-clone g.T.PageTable.rows g.F.FileStore.files x t sound may c.requires.room.thread;
       no_fork = c.requires.no_fork;
       built = c.requires.built;
+      own = λ files. sym (c.process_of_thread-p.ensures files);
+      heap = heap-in g.T.PageTable.rows g.F.FileStore.files x sound p;
+      change = λ files. subst (λ (q : ℕ). HasTrappedRoom (g.T.PageTable.has_room s.task.space.table) s.task.space.areas.spare q (trap t (length x.lwk.pool.free) (seen (g.T.PageTable.rows s.task.space.table) x.lwk.node x.lwk.frames files))) process
+          (c.requires.room.change s (ap (λ (q : ℕ). at x.sides.map q) process ∙ there) files);
     }
 
 pub returns-clause-after : goal.returns-clause-after
