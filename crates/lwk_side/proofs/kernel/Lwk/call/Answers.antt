@@ -2,7 +2,7 @@ use Rattle.hybrid_model.specs.Lwk.{trapped, view_here}
 use Rattle.kernel_model.specs.Calls.{local_call}
 use Rattle.kernel_model.specs.Plans as plans
 use Rattle.kernel_model.specs.Progress.{starting}
-use Rattle.kernel_model.specs.Traps.{Begins, cloned, past_ecall, planned}
+use Rattle.kernel_model.specs.Traps.{Begins, Trapped, cloned, past_ecall, planned}
 use Rattle.lwk_side.proofs.kernel.Lwk.call.Goals as goal
 use Rattle.lwk_side.specs.Built.{is_delegated}
 use Rattle.lwk_side.specs.Changing.{HasTrappedRoom, memory_call}
