@@ -2,7 +2,7 @@
 ghost use Rattle.mck_word.specs.Maps.{no_rows};
 ghost use Rattle.page_map.specs.Tables.{AreRanges};
 ghost use Rattle.slab.specs.Slab.{HasRoomFor, get};
-ghost use Rattle.std.specs.Prelude.{◌≡◌, ◌≤◌, ◌^◌, IfOk, OnOk};
+ghost use Rattle.std.specs.Prelude.{◌≡◌, ◌≤◌, ◌^◌, IfOk, IsOk, OnOk};
 ghost use Rattle.sv_table.specs.Room.{absent, absent_from};
 ghost use Rattle.sv_table.specs.Trees.{IsTable};
 ghost use Rattle.sv_table.specs.Walks.{rows_of};
@@ -60,6 +60,7 @@ pub fn grow(nodes: &mut Slab<Node>, more: usize) -> Result<(), NoMemory>
     ensures same { nodes.new.slots ≡ nodes.old.slots }
     ensures few { nodes.new.capacity ≤ 2 ^ 32 }
     ensures room { OnOk result (HasRoomFor nodes.new more) }
+    ensures succeeds { HasRoomFor nodes.old more → IsOk result }
     ensures grows { nodes.old.capacity ≤ nodes.new.capacity }
 {
     if nodes.capacity() - nodes.len() >= more {
