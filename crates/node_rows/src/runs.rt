@@ -1,4 +1,6 @@
 // One call of the program over a host and a sink in memory.
+ghost use Rattle.std.specs.Prelude.{◌<◌};
+
 use mcexec_run::{Ended, mcexec};
 use one_files::RowFiles;
 use outside::{MemHost, MemSink, Named};

@@ -37,6 +37,7 @@ pub call-requires-clause-no_fork : goal.call-requires-clause-no_fork
 call-requires-clause-no_fork g c =
     ap names_fork (c.regs-regs.ensures root_only)
     ∙ ap (λ (s : Stop). forks_at (thread_of (node_of c.args.self.now.node root_only) c.args.t.0).regs (Some s)) (sym c.in-Ecall.is) ∙ c.requires.no_fork root_only
+
 pub call-requires-clause-change : goal.call-requires-clause-change
 call-requires-clause-change g c = λ files.
     let lwk = c.args.self.now in
