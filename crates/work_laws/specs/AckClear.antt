@@ -10,14 +10,14 @@ use Rattle.ikc_ring.specs.declared.Msg.TheVariants.{Ack}
 use Rattle.mck_word.specs.declared.Pid.{Pid}
 use Rattle.std.proofs.Common.{ap, arith, refl}
 use Rattle.std.specs.Prelude.{true, ℕ, ◌≡◌}
-use Rattle.work_laws.specs.Rows.{LessensHere}
-use Rattle.work_laws.specs.Weights.{of_message, of_round}
+use Rattle.work_laws.specs.Wholes.{HerePays}
+use Rattle.work_laws.specs.Weights.{of_back, of_round}
 
-pub here_ack_clear : (step p : ℕ) (h : Here) (q : Pid) → may_here (Events.AckClear q) h ≡ true → LessensHere step p (Events.AckClear q) h
+pub here_ack_clear : (p : ℕ) (h : Here) (q : Pid) → may_here (Events.AckClear q) h ≡ true → HerePays p (Events.AckClear q) h 1 0
 unfolding ack_clear
-here_ack_clear step p h q e =
+here_ack_clear p h q e =
     let m = may-ack-clear h q e in
     let r = ap (of_round h.workers) m.round in
     let s = ap (λ o. of_round h.workers (with_phase o Acked)) m.round in
-    let t = tally-push (of_message h.workers h.side.linux.cleared) h.side.to_lwk Ack in
-    record { node = refl; workers = refl; born = refl; less = omega (arith, r, s, t) }
+    let t = tally-push of_back h.side.to_lwk Ack in
+    record { files = refl; own = omega (arith, r, s, t) }

@@ -14,12 +14,13 @@ use Rattle.mck_word.specs.Maps.{at, put}
 use Rattle.mck_word.specs.declared.Pid.{Pid}
 use Rattle.request_book.specs.declared.ReqState.TheVariants.{Held, Waiting}
 use Rattle.std.proofs.Common.{ap, arith, refl, ◌∙◌}
-use Rattle.std.specs.Prelude.{List, Some, is_none, true, ℕ, ◌≡◌}
-use Rattle.work_laws.specs.Rows.{LessensHere}
-use Rattle.work_laws.specs.Services.{rank-most, service-other, service-own, stated-row}
-use Rattle.work_laws.specs.Weights.{going, of_request, of_state, rank_of}
+use Rattle.std.specs.Prelude.{List, Some, is_none, true, ℕ, ◌+◌, ◌≡◌}
+use Rattle.work_laws.specs.Wholes.{HerePays}
+use Rattle.work_laws.specs.Services.{service-other, service-own, stated-row}
+use Rattle.work_laws.specs.AnyRank.{rank-most}
+use Rattle.work_laws.specs.Weights.{of_reply, of_request, of_state, rank_of}
 
-module _ (step p : ℕ) (h : Here) (ring_number : ℕ → ℕ) (k : OfProcess p h.side h.node h.workers ring_number) (q : Pid) (w : ℕ) (e : may_here (Events.Assign q w) h ≡ true) where
+module _ (p : ℕ) (h : Here) (ring_number : ℕ → ℕ) (k : OfProcess p h.side h.node h.workers ring_number) (q : Pid) (w : ℕ) (e : may_here (Events.Assign q w) h ≡ true) where
   abbrev n : ℕ
   n = first_number h.side.book.waiting
 
@@ -35,13 +36,13 @@ module _ (step p : ℕ) (h : Here) (ring_number : ℕ → ℕ) (k : OfProcess p 
   abbrev linux' : LinuxSide
   linux' = record h.side.linux { workers = put h.side.linux.workers w n; services = put h.side.linux.services n taken }
 
-  pub here_assign : LessensHere step p (Events.Assign q w) h
+  pub here_assign : HerePays p (Events.Assign q w) h 1 0
   unfolding assign
   here_assign =
       let files = h.node.files in
       let l = h.side.linux in
-      let a = stated-row (of_request step files l) (of_request step files linux') h.side.book n Waiting Held waits.0 waits.1
-      (λ j u f g. ap (λ (s : Service). of_state step files s (at l.pins) (at l.mirror) u) (service-other l.services n taken j f)) in
-      let b = ap (λ (s : Service). going step s.progress (rank_of files s (at l.pins) (at l.mirror))) (service-own l.services n taken) in
+      let a = stated-row (of_request files l) (of_request files linux') h.side.book n Waiting Held waits.0 waits.1
+      (λ j u f g. ap (λ (s : Service). of_state files s (at l.pins) (at l.mirror) u.0) (service-other l.services n taken j f)) in
+      let b = ap (λ (s : Service). of_reply + rank_of files s (at l.pins) (at l.mirror)) (service-own l.services n taken) in
       let d = rank-most (is_ready (next_kind files taken.progress)) (is_none (looked_up (at l.mirror (next_piece taken.progress).page) (needed_access taken.progress))) (is_uncopied (at l.pins w)) in
-      record { node = refl; workers = refl; born = refl; less = omega (arith, a, b, d) }
+      record { files = refl; own = omega (arith, a, b, d) }

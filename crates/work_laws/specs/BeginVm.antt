@@ -10,13 +10,14 @@ use Rattle.ikc_ring.specs.declared.Msg.TheVariants.{Clear}
 use Rattle.kernel_model.specs.MemoryCalls.{closing_range}
 use Rattle.kernel_model.specs.Nodes.{change_in, has_thread, is_living, process_of, thread_of}
 use Rattle.kernel_model.specs.declared.Change.{Change}
+use Rattle.mck_word.specs.Maps.{at}
 use Rattle.mck_word.specs.declared.Tid.{Tid}
 use Rattle.std.proofs.Common.{ap, arith, refl}
-use Rattle.std.specs.Prelude.{None, Option, Some, is_none, is_some, true, ℕ, ◌&&◌, ◌<◌, ◌≡◌}
-use Rattle.work_laws.specs.Rows.{LessensHere}
+use Rattle.std.specs.Prelude.{None, Option, Some, is_none, is_some, true, ℕ, ◌&&◌, ◌+◌, ◌≡◌, ◌≤◌}
+use Rattle.work_laws.specs.Wholes.{HerePays}
 use Rattle.work_laws.specs.Weights.{of_message, of_round, of_side}
 
-module _ (step p : ℕ) (h : Here) (t : Tid) (e : may_here (Events.BeginVm t) h ≡ true) where
+module _ (p : ℕ) (h : Here) (t : Tid) (e : may_here (Events.BeginVm t) h ≡ true) where
   changes : is_some (change_in (thread_of h.node t.0).does) ≡ true
   changes =
       let x = thread_of h.node t.0 in
@@ -25,25 +26,17 @@ module _ (step p : ℕ) (h : Here) (t : Tid) (e : may_here (Events.BeginVm t) h 
       let c = both (has_thread h.node t.0) (is_some (change_in x.does)) b.0 in
       c.1
 
-  less : (o : Option Change) → is_some o ≡ true → of_side step h.workers h.node.files (begin_vm_of p t.0 o h).side < of_side step h.workers h.node.files h.side
+  less : (o : Option Change) → is_some o ≡ true → of_side h.workers h.node.files (begin_vm_of p t.0 o h).side + 1 ≤ of_side h.workers h.node.files h.side + 0
   unfolding begin_round
   less None f = absurd (grind (arith, f))
   less (Some c) f =
       let r = ap (of_round h.workers) (may-begin t.0 h e).none in
-      let s = sum-post (of_message h.workers h.side.linux.cleared) (ring_of h t.0) (Clear (closing_range (process_of h.node p) c)) h.side.to_linux in
+      let s = sum-post (of_message h.workers h.side.linux.cleared (at h.side.lwk.table)) (ring_of h t.0) (Clear (closing_range (process_of h.node p) c)) h.side.to_linux in
       omega (arith, r, s)
 
-  node : (o : Option Change) → (begin_vm_of p t.0 o h).node ≡ h.node
-  node None = refl
-  node (Some c) = refl
+  files : (o : Option Change) → (begin_vm_of p t.0 o h).node.files ≡ h.node.files
+  files None = refl
+  files (Some c) = refl
 
-  workers : (o : Option Change) → (begin_vm_of p t.0 o h).workers ≡ h.workers
-  workers None = refl
-  workers (Some c) = refl
-
-  born : (o : Option Change) → (begin_vm_of p t.0 o h).born ≡ h.born
-  born None = refl
-  born (Some c) = refl
-
-  pub here_begin_vm : LessensHere step p (Events.BeginVm t) h
-  here_begin_vm = let o = change_in (thread_of h.node t.0).does in record { node = node o; workers = workers o; born = born o; less = less o changes }
+  pub here_begin_vm : HerePays p (Events.BeginVm t) h 1 0
+  here_begin_vm = let o = change_in (thread_of h.node t.0).does in record { files = files o; own = less o changes }

@@ -11,18 +11,19 @@ use Rattle.mck_word.specs.declared.Pid.{Pid}
 use Rattle.request_book.specs.declared.ReqState.TheVariants.{Ended}
 use Rattle.std.proofs.Common.{ap, arith, refl}
 use Rattle.std.specs.Prelude.{true, ℕ, ◌≡◌}
-use Rattle.work_laws.specs.Rows.{LessensHere, row-cut}
+use Rattle.work_laws.specs.Rows.{row-cut}
 use Rattle.work_laws.specs.Services.{row-is, service-left}
-use Rattle.work_laws.specs.Weights.{of_message, of_request, of_state}
+use Rattle.work_laws.specs.Weights.{of_back, of_request, of_state}
+use Rattle.work_laws.specs.Wholes.{HerePays}
 
-pub here_finish : (step p : ℕ) (h : Here) (q : Pid) (w : ℕ) → may_here (Events.Finish q w) h ≡ true → LessensHere step p (Events.Finish q w) h
+pub here_finish : (p : ℕ) (h : Here) (q : Pid) (w : ℕ) → may_here (Events.Finish q w) h ≡ true → HerePays p (Events.Finish q w) h 1 0
 unfolding finish_here finish
-here_finish step p h q w e =
+here_finish p h q w e =
     let m = may-finish h q w e in
     let l = h.side.linux in
     let n = serves l w in
     let l' : LinuxSide = record l { workers = cut l.workers w; services = cut l.services n } in
-    let a = row-cut (of_request step h.node.files l) (of_request step h.node.files l') h.side.book.rows n (Ended, m.request.call) (row-is l h.side.book w Ended m.request)
-    (λ j u f g. ap (λ (s : Service). of_state step h.node.files s (at l.pins) (at l.mirror) u) (service-left l.services n j f)) in
-    let t = tally-push (of_message h.workers l.cleared) h.side.to_lwk (reply_of l w) in
-    record { node = refl; workers = refl; born = refl; less = omega (arith, a, t) }
+    let a = row-cut (of_request h.node.files l) (of_request h.node.files l') h.side.book.rows n (Ended, m.request.call) (row-is l h.side.book w Ended m.request)
+    (λ j u f g. ap (λ (s : Service). of_state h.node.files s (at l.pins) (at l.mirror) u.0) (service-left l.services n j f)) in
+    let t = tally-push of_back h.side.to_lwk (reply_of l w) in
+    record { files = refl; own = omega (arith, a, t) }

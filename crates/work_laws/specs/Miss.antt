@@ -13,23 +13,23 @@ use Rattle.mck_word.specs.Maps.{at}
 use Rattle.mck_word.specs.declared.Pid.{Pid}
 use Rattle.request_book.specs.declared.ReqState.TheVariants.{Faulted, Held}
 use Rattle.std.proofs.Common.{ap, arith, refl, ◌∙◌}
-use Rattle.std.specs.Prelude.{is_none, nat_lt, true, ℕ, ◌&&◌, ◌≡◌}
-use Rattle.work_laws.specs.Rows.{LessensHere}
+use Rattle.std.specs.Prelude.{is_none, nat_lt, true, ℕ, ◌&&◌, ◌+◌, ◌≡◌}
+use Rattle.work_laws.specs.Wholes.{HerePays}
 use Rattle.work_laws.specs.Services.{number-is, row-is, stated-row, worker-is}
-use Rattle.work_laws.specs.Weights.{going, of_message, of_request, rank_held}
+use Rattle.work_laws.specs.Weights.{of_back, of_reply, of_request, rank_held}
 
-module _ (step p : ℕ) (h : Here) (ring_number : ℕ → ℕ) (k : OfProcess p h.side h.node h.workers ring_number) (q : Pid) (w : ℕ) (e : may_here (Events.Miss q w) h ≡ true) where
+module _ (p : ℕ) (h : Here) (ring_number : ℕ → ℕ) (k : OfProcess p h.side h.node h.workers ring_number) (q : Pid) (w : ℕ) (e : may_here (Events.Miss q w) h ≡ true) where
   allowed : (is_free_to_act h.side.linux h.side.book w && is_ready (kind_for h.side.linux h.node.files w) ≡ true) × (is_none (row_for h.side.linux w) ≡ true)
   allowed =
       let a = both (nat_lt w h.workers) (may_miss h.side.linux h.side.book h.node.files w) e in
       both (is_free_to_act h.side.linux h.side.book w && is_ready (kind_for h.side.linux h.node.files w)) (is_none (row_for h.side.linux w)) a.1
 
-  pub here_miss : LessensHere step p (Events.Miss q w) h
+  pub here_miss : HerePays p (Events.Miss q w) h 1 0
   unfolding miss
   here_miss =
       let m = may-miss h q w e in
       let l = h.side.linux in
-      let f = of_request step h.node.files l in
+      let f = of_request h.node.files l in
       let is = row-is l h.side.book w Held m.request in
       let a = stated-row f f h.side.book (serves l w) Held Faulted m.request.call is (λ j u x g. refl) in
       let v = worker-is (at h.side.book.rows) (at l.services) m.request.number w m.request.call m.request.is (k.served.workers_hold w m.request.number m.request.serving) in
@@ -37,6 +37,6 @@ module _ (step p : ℕ) (h : Here) (ring_number : ℕ → ℕ) (k : OfProcess p 
       let v' : (served l w).worker ≡ w = ap (λ (j : ℕ). (served l w).worker) n ∙ (rw n at v) in
       let ready = both (is_free_to_act l h.side.book w) (is_ready (kind_for l h.node.files w)) allowed.0 in
       let no_pin = ap is_uncopied (ap (at l.pins) v' ∙ m.no_pin) in
-      let b : f (serves l w, (Held, m.request.call)) ≡ going step (served l w).progress 12 = (λ i. going step (served l w).progress (rank_held (ready.1 i) (allowed.1 i) (no_pin i))) in
-      let t = tally-push (of_message h.workers l.cleared) h.side.to_lwk (fault_of l w) in
-      record { node = refl; workers = refl; born = refl; less = omega (arith, a, b, t) }
+      let b : f (serves l w, (Held, m.request.call)) ≡ of_reply + 12 = (λ i. of_reply + rank_held (ready.1 i) (allowed.1 i) (no_pin i)) in
+      let t = tally-push of_back h.side.to_lwk (fault_of l w) in
+      record { files = refl; own = omega (arith, a, b, t) }

@@ -18,12 +18,12 @@ use Rattle.page_pins.specs.declared.Pin.{Pin}
 use Rattle.request_book.specs.declared.ReqState.{ReqState}
 use Rattle.std.proofs.Common.{ap, arith, refl, sym, ◌∙◌}
 use Rattle.std.proofs.lemmas.Bool.Decides.{nat_tests}
-use Rattle.std.specs.Prelude.{Bool, None, Option, Some, cond, false, is_none, not, true, unwrap_or, ℕ, ◌==◌, ◌<◌, ◌≡◌}
-use Rattle.work_laws.specs.Rows.{LessensHere}
+use Rattle.std.specs.Prelude.{Bool, None, Option, Some, cond, false, is_none, not, true, unwrap_or, ℕ, ◌+◌, ◌==◌, ◌≡◌, ◌≤◌}
 use Rattle.work_laws.specs.Services.{worker-is}
-use Rattle.work_laws.specs.Weights.{going, of_pin, of_request, of_side, rank_held, rank_of}
+use Rattle.work_laws.specs.Weights.{of_pin, of_reply, of_request, of_side, rank_held, rank_of}
+use Rattle.work_laws.specs.Wholes.{HerePays}
 
-module _ (step p : ℕ) (h : Here) (ring_number : ℕ → ℕ) (k : OfProcess p h.side h.node h.workers ring_number) (q : Pid) (w : ℕ) (e : may_here (Events.Pin q w) h ≡ true) where
+module _ (p : ℕ) (h : Here) (ring_number : ℕ → ℕ) (k : OfProcess p h.side h.node h.workers ring_number) (q : Pid) (w : ℕ) (e : may_here (Events.Pin q w) h ≡ true) where
   abbrev l : LinuxSide
   l = h.side.linux
 
@@ -50,8 +50,8 @@ module _ (step p : ℕ) (h : Here) (ring_number : ℕ → ℕ) (k : OfProcess p 
             let y : j ≡ n = ap (λ (o : Option ℕ). unwrap_or o 0) z in
             grind (arith, nat_tests, y, other))
 
-    same : (j : ℕ) (u : ReqState × Call) → (j == n) ≡ false → at h.side.book.rows j ≡ Some u → of_request step h.node.files l' (j, u) ≡ of_request step h.node.files l (j, u)
-    same j (States.Held, c) f is = ap (going step (service_of l.services j).progress) (held-same j c f is)
+    same : (j : ℕ) (u : ReqState × Call) → (j == n) ≡ false → at h.side.book.rows j ≡ Some u → of_request h.node.files l' (j, u) ≡ of_request h.node.files l (j, u)
+    same j (States.Held, c) f is = ap (λ n. of_reply + n) (held-same j c f is)
     same j (States.Posted, c) f is = refl
     same j (States.Waiting, c) f is = refl
     same j (States.Faulted, c) f is = refl
@@ -59,25 +59,25 @@ module _ (step p : ℕ) (h : Here) (ring_number : ℕ → ℕ) (k : OfProcess p 
     same j (States.Ended, c) f is = refl
     same j (States.Replied, c) f is = refl
 
-    less : of_side step h.workers h.node.files (record h.side { linux = l' }) < of_side step h.workers h.node.files h.side
+    less : of_side h.workers h.node.files (record h.side { linux = l' }) + 1 ≤ of_side h.workers h.node.files h.side + 0
     less =
         let m = may-pin h q w e in
         let x = service_of l.services n in
-        let a = entries-but (of_request step h.node.files l') (of_request step h.node.files l) h.side.book.rows n (States.Held, m.request.call) m.request.is same in
+        let a = entries-but (of_request h.node.files l') (of_request h.node.files l) h.side.book.rows n (States.Held, m.request.call) m.request.is same in
         let v = worker-is (at h.side.book.rows) (at l.services) n w m.request.call m.request.is (k.served.workers_hold w n m.request.serving) in
         let now = ap is_uncopied (ap (at l'.pins) v ∙ at-put l.pins w new w ∙ (let s : (w == w) ≡ true = grind (arith, nat_tests) in ap (λ b. cond b (Some new) (at l.pins w)) s)) ∙ ap not uncopied in
         let was = ap is_uncopied (ap (at l.pins) v ∙ m.no_pin) in
         let found : looked_up (Some m.row) (needed_access x.progress) ≡ Some m.row = (rw m.right refl) in
         let row = ap is_none (ap (λ o. looked_up o (needed_access x.progress)) m.there ∙ found) in
-        let b : of_request step h.node.files l (n, (States.Held, m.request.call)) ≡ going step x.progress 3 = (λ i. going step x.progress (rank_held (m.ready i) (row i) (was i))) in
-        let d : of_request step h.node.files l' (n, (States.Held, m.request.call)) ≡ going step x.progress 1 = (λ i. going step x.progress (rank_held (m.ready i) (row i) (now i))) in
+        let b : of_request h.node.files l (n, (States.Held, m.request.call)) ≡ of_reply + 4 = (λ i. of_reply + rank_held (m.ready i) (row i) (was i)) in
+        let d : of_request h.node.files l' (n, (States.Held, m.request.call)) ≡ of_reply + 2 = (λ i. of_reply + rank_held (m.ready i) (row i) (now i)) in
         let t = total-put of_pin l.pins w new in
         omega (arith, a, b, d, t)
 
-  less-with : (o : Option Row) → o ≡ Some (may-pin h q w e).row → of_side step h.workers h.node.files (record h.side { linux = pinned l w o }) < of_side step h.workers h.node.files h.side
+  less-with : (o : Option Row) → o ≡ Some (may-pin h q w e).row → of_side h.workers h.node.files (record h.side { linux = pinned l w o }) + 1 ≤ of_side h.workers h.node.files h.side + 0
   less-with None f = absurd (grind (arith, f))
   less-with (Some r) f = less (record { page = (next_piece (served l w).progress).page; frame = r.0; rights = r.1; copied = false }) refl
 
-  pub here_pin : LessensHere step p (Events.Pin q w) h
+  pub here_pin : HerePays p (Events.Pin q w) h 1 0
   unfolding pin
-  here_pin = record { node = refl; workers = refl; born = refl; less = less-with (row_for l w) (may-pin h q w e).found }
+  here_pin = record { files = refl; own = less-with (row_for l w) (may-pin h q w e).found }

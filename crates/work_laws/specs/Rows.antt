@@ -1,16 +1,18 @@
--- Sums over a map one row of which changes, where each other row counts as before; and the sides, one of which changes.
-use Rattle.hybrid_laws.specs.Sums.{total-cut-by, total-put, total-put-by}
+-- Sums over a map one row of which changes, where each other row counts as before; two maps whose rows are compared; and what each row counts more.
+use Rattle.std.specs.FinMap as finmap
+use Rattle.std.specs.FinMap.Entries as fin
+use Rattle.hybrid_laws.specs.Sums.{counted_at, none-below, total-cut, total-cut-by, total-put-by}
+use Rattle.hybrid_laws.specs.Tests.{both}
 use Rattle.hybrid_laws.specs.Totals.{entries-but}
-use Rattle.hybrid_laws.specs.WholePair.{has-side}
-use Rattle.hybrid_model.specs.Events.{after, after_here, process_of_event}
-use Rattle.hybrid_model.specs.Globals.{Coherent}
-use Rattle.hybrid_model.specs.Pairs.{Here, Pair, here}
-use Rattle.hybrid_model.specs.declared.events.Event.{Event}
-use Rattle.kernel_model.specs.Nodes.{is_there}
-use Rattle.mck_word.specs.Maps.{Map, at, cut, entries, put}
-use Rattle.std.proofs.Common.{arith}
-use Rattle.std.specs.Prelude.{Some, false, sum_by, true, ℕ, ◌+◌, ◌<◌, ◌==◌, ◌≡◌}
-use Rattle.work_laws.specs.Weights.{of_side, sides_to_go}
+use Rattle.hybrid_laws.specs.Written.{sorted-true}
+use Rattle.mck_word.specs.MapLaws.{at-cut}
+use Rattle.mck_word.specs.Maps.{Map, at, count, cut, entries, put, total}
+use Rattle.std.proofs.Common.{ap, arith, refl, sym, ◌∙◌}
+use Rattle.std.proofs.lemmas.Bool.Decides.{nat_tests}
+use Rattle.std.proofs.lemmas.List.Sums.{sum_by-cons}
+use Rattle.std.specs.Cmp.{nat_cmp_total, unsigned_tied}
+use Rattle.std.specs.Ordering.{nat_cmp}
+use Rattle.std.specs.Prelude.{Bool, List, None, Some, [], cond, false, is_some, length, sum_by, true, ℕ, ◌*◌, ◌+◌, ◌==◌, ◌∷◌, ◌≡◌, ◌≤◌}
 
 module _ {V : Type 0} (f g : ℕ × V → ℕ) (m : Map V) (k : ℕ) (old : V) (is : at m k ≡ Some old) (others : (j : ℕ) (u : V) → (j == k) ≡ false → at m j ≡ Some u → g (j, u) ≡ f (j, u)) where
   pub row-put : (new : V) → sum_by g (entries (put m k new)) + f (k, old) ≡ sum_by f (entries m) + g (k, new)
@@ -27,28 +29,90 @@ module _ {V : Type 0} (f g : ℕ × V → ℕ) (m : Map V) (k : ℕ) (old : V) (
       let d = entries-but g f m k old is others in
       omega (arith, b, d)
 
--- the part of the sides is less, and the node is as it was
-pub record Lessens (step : ℕ) (pair : Pair) (e : Event) : Type 0 where
-  pub node : (after pair e).node ≡ pair.node
-  pub less : sides_to_go step (after pair e) < sides_to_go step pair
+-- ---- two maps, the second of which counts at least as much at each key
+module _ {V : Type 0} (f g : ℕ × V → ℕ) where
+  le-entries : (es : List (ℕ × V)) (n : Map V) → fin.is_sorted nat_cmp es ≡ true → ((k : ℕ) (v : V) → fin.find nat_cmp k es ≡ Some v → f (k, v) ≤ counted_at g k (at n k)) → sum_by f es ≤ sum_by g (entries n)
+  le-entries [] n s h = omega arith
+  le-entries (e ∷ es) n s h =
+      let c = total-cut-by g n e.0 in
+      let own = h e.0 e.1 (ap (λ b. cond b (Some e.1) (fin.find nat_cmp e.0 es)) (unsigned_tied e.0 e.0) ∙ (let z : (e.0 == e.0) ≡ true = grind (arith, nat_tests) in ap (λ b. cond b (Some e.1) (fin.find nat_cmp e.0 es)) z)) in
+      let rest = le-entries es (cut n e.0) a.1 later in
+      let d = sum_by-cons f e es in
+      omega (arith, c, own, rest, d)
+    where
+      a : (fin.below_all nat_cmp e.0 es ≡ true) × (fin.is_sorted nat_cmp es ≡ true)
+      a = both (fin.below_all nat_cmp e.0 es) (fin.is_sorted nat_cmp es) s
 
--- of one process
-pub record LessensHere (step : ℕ) (p : ℕ) (e : Event) (h : Here) : Type 0 where
-  pub node : (after_here e p h).node ≡ h.node
-  pub workers : (after_here e p h).workers ≡ h.workers
-  pub born : (after_here e p h).born ≡ h.born
-  pub less : of_side step h.workers h.node.files (after_here e p h).side < of_side step h.workers h.node.files h.side
+      none-own : fin.find nat_cmp e.0 es ≡ None
+      none-own = none-below (λ (x : ℕ × V). 0) e.0 e.0 es (omega arith) a.0
 
-module _ (step : ℕ) (pair : Pair) (c : Coherent pair) (e : Event) (there : is_there pair.node (process_of_event pair.node e) ≡ true) where
-  abbrev p : ℕ
-  p = process_of_event pair.node e
+      later : (k : ℕ) (v : V) → fin.find nat_cmp k es ≡ Some v → f (k, v) ≤ counted_at g k (at (cut n e.0) k)
+      later k v u = go (k == e.0) refl
+        where
+          go : (b : Bool) → (k == e.0) ≡ b → f (k, v) ≤ counted_at g k (at (cut n e.0) k)
+          go true z = absurd (let w : k ≡ e.0 = grind (arith, nat_tests, z) in let x = sym none-own ∙ ap (λ (j : ℕ). fin.find nat_cmp j es) (sym w) ∙ u in grind (arith, x))
+          go false z =
+              let i = h k v (ap (λ b. cond b (Some e.1) (fin.find nat_cmp k es)) (unsigned_tied k e.0 ∙ z) ∙ u) in
+              let j = ap (counted_at g k) (at-cut n e.0 k ∙ ap (λ b. cond b None (at n k)) z) in
+              omega (arith, i, j)
 
-  abbrev h' : Here
-  h' = after_here e p (here pair p)
+  pub entries-le : (m n : Map V) → ((k : ℕ) (v : V) → at m k ≡ Some v → f (k, v) ≤ counted_at g k (at n k)) → sum_by f (entries m) ≤ sum_by g (entries n)
+  entries-le m n h = le-entries (entries m) n (sorted-true m) (λ k v e. h k v (finmap.get-entries m k ∙ e))
 
-  pub lessens : LessensHere step p e (here pair p) → Lessens step pair e
-  lessens l =
-      let a = total-put (of_side step pair.workers pair.node.files) pair.sides p h'.side in
-      let b = rw (has-side pair c.known p there) at a in
-      let d = l.less in
-      record { node = l.node; less = rw (l.node, l.workers, l.born) (omega (arith, b, d)) }
+  -- of one map
+  pub rows-le : (m : Map V) → ((k : ℕ) (v : V) → at m k ≡ Some v → f (k, v) ≤ g (k, v)) → sum_by f (entries m) ≤ sum_by g (entries m)
+  rows-le m h = entries-le m m (λ k v e. (let a = h k v e in let b = ap (counted_at g k) e in omega (arith, a, b)))
+
+-- ---- each row counts so much more, or so much
+module _ {V : Type 0} where
+  sum-more : (f : V → ℕ) (c : ℕ) (es : List (ℕ × V)) → sum_by (λ (e : ℕ × V). f e.1 + c) es ≡ sum_by (λ (e : ℕ × V). f e.1) es + c * length es
+  sum-more f c [] = omega arith
+  sum-more f c (e ∷ es) =
+      let a = sum_by-cons (λ (x : ℕ × V). f x.1 + c) e es in
+      let b = sum_by-cons (λ (x : ℕ × V). f x.1) e es in
+      let d = sum-more f c es in
+      omega (arith, a, b, d)
+
+  pub total-more : (f : V → ℕ) (c : ℕ) (m : Map V) → total (λ (v : V). f v + c) m ≡ total f m + c * count m
+  total-more f c m = sum-more f c (entries m) ∙ ap (λ n. total f m + c * n) (sym (finmap.len-entries m))
+
+  sum-most : (f : ℕ × V → ℕ) (least most : ℕ) (es : List (ℕ × V)) → ((e : ℕ × V) → least ≤ f e) → ((e : ℕ × V) → f e ≤ most) → (least * length es ≤ sum_by f es) × (sum_by f es ≤ most * length es)
+  sum-most f least most [] l h = (omega arith, omega arith)
+  sum-most f least most (e ∷ es) l h =
+      let a = sum_by-cons f e es in
+      let b = sum-most f least most es l h in
+      let c = l e in
+      let d = h e in
+      let x = b.0 in
+      let y = b.1 in
+      (omega (arith, a, x, c), omega (arith, a, y, d))
+
+  pub entries-most : (f : ℕ × V → ℕ) (least most : ℕ) (m : Map V) → ((e : ℕ × V) → least ≤ f e) → ((e : ℕ × V) → f e ≤ most) → (least * count m ≤ sum_by f (entries m)) × (sum_by f (entries m) ≤ most * count m)
+  entries-most f least most m l h =
+      let a = sum-most f least most (entries m) l h in
+      let n = ap (λ (j : ℕ). least * j) (finmap.len-entries m) in
+      let o = ap (λ (j : ℕ). most * j) (finmap.len-entries m) in
+      let x = a.0 in
+      let y = a.1 in
+      (omega (arith, x, n), omega (arith, y, o))
+
+-- a row put where there is one
+pub count-stays : {V : Type 0} (m : Map V) (k : ℕ) (v : V) → is_some (at m k) ≡ true → count (put m k v) ≡ count m
+count-stays m k v e = finmap.len-insert nat_cmp_total m k v ∙ ap (λ b. cond b (count m) (count m + 1)) e
+
+module _ {V : Type 0} where
+  length-sum : (es : List (ℕ × V)) → length es ≡ sum_by (λ (e : ℕ × V). 1) es
+  length-sum [] = refl
+  length-sum (e ∷ es) = let a = sum_by-cons (λ (x : ℕ × V). 1) e es in let b = length-sum es in omega (arith, a, b)
+
+  pub count-total : (m : Map V) → count m ≡ total (λ (v : V). 1) m
+  count-total m = finmap.len-entries m ∙ length-sum (entries m)
+
+  -- a row cut
+  pub count-cut : (m : Map V) (k : ℕ) (v : V) → at m k ≡ Some v → count (cut m k) + 1 ≡ count m
+  count-cut m k v e =
+      let a = total-cut (λ (x : V). 1) m k in
+      let b = rw e at a in
+      let c = count-total (cut m k) in
+      let d = count-total m in
+      omega (arith, b, c, d)

@@ -5,14 +5,13 @@ use Rattle.hybrid_model.specs.Sides.{Book, LinuxSide, Service, no_service, serve
 use Rattle.hybrid_model.specs.Tallies.{Reads}
 use Rattle.ikc_ring.specs.declared.Call.{Call}
 use Rattle.mck_word.specs.MapLaws.{at-cut, at-put}
-use Rattle.mck_word.specs.Maps.{Map, at, cut, entries, put}
+use Rattle.mck_word.specs.Maps.{Map, at, count, cut, entries, put}
 use Rattle.request_book.specs.declared.ReqState.{ReqState}
 use Rattle.request_book.specs.declared.ReqState.TheVariants.{Held}
-use Rattle.std.proofs.Common.{ap, arith, sym, ◌∙◌}
+use Rattle.std.proofs.Common.{ap, arith, refl, sym, ◌∙◌}
 use Rattle.std.proofs.lemmas.Bool.Decides.{nat_tests}
-use Rattle.std.specs.Prelude.{Bool, None, Option, Some, cond, false, sum_by, true, unwrap_or, ℕ, ◌+◌, ◌==◌, ◌≡◌, ◌≤◌}
-use Rattle.work_laws.specs.Rows.{row-put}
-use Rattle.work_laws.specs.Weights.{rank_held}
+use Rattle.std.specs.Prelude.{None, Option, Some, cond, false, is_some, sum_by, true, unwrap_or, ℕ, ◌+◌, ◌==◌, ◌≡◌}
+use Rattle.work_laws.specs.Rows.{count-stays, row-put}
 
 pub service-own : (m : Map Service) (k : ℕ) (v : Service) → service_of (put m k v) k ≡ v
 service-own m k v = ap (λ (o : Option Service). unwrap_or o no_service) (at-put m k v k ∙ (let e : (k == k) ≡ true = grind (arith, nat_tests) in ap (λ b. cond b (Some v) (at m k)) e))
@@ -22,12 +21,6 @@ service-other m k v j e = ap (λ (o : Option Service). unwrap_or o no_service) (
 
 pub service-left : (m : Map Service) (k j : ℕ) → (j == k) ≡ false → service_of (cut m k) j ≡ service_of m j
 service-left m k j e = ap (λ (o : Option Service). unwrap_or o no_service) (at-cut m k j ∙ ap (λ b. cond b None (at m j)) e)
-
-pub rank-most : (a b c : Bool) → rank_held a b c ≤ 12
-rank-most true b true = omega arith
-rank-most true true false = omega arith
-rank-most true false false = omega arith
-rank-most false b c = omega arith
 
 -- a request that is Held and its worker
 pub worker-is : (rows : Reads (ReqState × Call)) (services : Reads Service) (q w : ℕ) (call : Call) → rows q ≡ Some (Held, call) → holder_at rows services q ≡ Some w → (service_at services q).worker ≡ w
@@ -49,3 +42,11 @@ stated-row f g b q s s' call is others =
     let a = row-put f g b.rows q (s, call) is others (s', call) in
     let c = ap (λ o. sum_by g (entries (stated s' o q b.rows))) is in
     omega (arith, a, c)
+
+-- a request in another state: there are as many
+pub count-stated : (s : ReqState) (q : ℕ) (rows : Map (ReqState × Call)) → count (stated s (at rows q) q rows) ≡ count rows
+count-stated s q rows = go (at rows q) refl
+  where
+    go : (o : Option (ReqState × Call)) → at rows q ≡ o → count (stated s o q rows) ≡ count rows
+    go None e = refl
+    go (Some r) e = count-stays rows q (s, r.1) (ap is_some e)

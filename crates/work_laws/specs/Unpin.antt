@@ -18,9 +18,9 @@ use Rattle.page_pins.specs.declared.Pin.{Pin}
 use Rattle.request_book.specs.declared.ReqState.{ReqState}
 use Rattle.std.proofs.Common.{ap, arith, refl, sym, ◌∙◌}
 use Rattle.std.proofs.lemmas.Bool.Decides.{nat_tests}
-use Rattle.std.specs.Prelude.{Bool, None, Option, Some, cond, false, is_none, nat_lt, not, true, ℕ, ◌&&◌, ◌==◌, ◌≡◌, ◌||◌}
-use Rattle.work_laws.specs.Rows.{LessensHere}
-use Rattle.work_laws.specs.Weights.{going, of_pin, of_request, rank_held, rank_of}
+use Rattle.std.specs.Prelude.{Bool, None, Option, Some, cond, false, is_none, nat_lt, not, true, ℕ, ◌&&◌, ◌+◌, ◌==◌, ◌≡◌, ◌||◌}
+use Rattle.work_laws.specs.Weights.{of_pin, of_reply, of_request, rank_held, rank_of}
+use Rattle.work_laws.specs.Wholes.{HerePays}
 
 -- a pin that was copied, or whose piece isn't ready, makes no difference
 pin-counts-not : (ready without_row : Bool) (o : Option Pin) → (is_copied o || not ready) ≡ true → rank_held ready without_row false ≡ rank_held ready without_row (is_uncopied o)
@@ -32,7 +32,7 @@ pin-counts-not true without_row (Some x) e = go x.copied e
     go true e = refl
     go false e = absurd (grind (arith, e))
 
-module _ (step p : ℕ) (h : Here) (ring_number : ℕ → ℕ) (k : OfProcess p h.side h.node h.workers ring_number) (q : Pid) (w : ℕ) (e : may_here (Events.Unpin q w) h ≡ true) where
+module _ (p : ℕ) (h : Here) (ring_number : ℕ → ℕ) (k : OfProcess p h.side h.node h.workers ring_number) (q : Pid) (w : ℕ) (e : may_here (Events.Unpin q w) h ≡ true) where
   abbrev l : LinuxSide
   l = h.side.linux
 
@@ -72,8 +72,8 @@ module _ (step p : ℕ) (h : Here) (ring_number : ℕ → ℕ) (k : OfProcess p 
           ∙ pin-counts-not ready without_row (at l.pins w) (own j c is serving)
           ∙ ap (λ (v : ℕ). rank_held ready without_row (is_uncopied (at l.pins v))) (sym g)
 
-  same : (j : ℕ) (u : ReqState × Call) → at h.side.book.rows j ≡ Some u → of_request step h.node.files l' (j, u) ≡ of_request step h.node.files l (j, u)
-  same j (States.Held, c) is = ap (going step (service_of l.services j).progress) (held-same j c is)
+  same : (j : ℕ) (u : ReqState × Call) → at h.side.book.rows j ≡ Some u → of_request h.node.files l' (j, u) ≡ of_request h.node.files l (j, u)
+  same j (States.Held, c) is = ap (λ n. of_reply + n) (held-same j c is)
   same j (States.Posted, c) is = refl
   same j (States.Waiting, c) is = refl
   same j (States.Faulted, c) is = refl
@@ -81,11 +81,11 @@ module _ (step p : ℕ) (h : Here) (ring_number : ℕ → ℕ) (k : OfProcess p 
   same j (States.Ended, c) is = refl
   same j (States.Replied, c) is = refl
 
-  pub here_unpin : LessensHere step p (Events.Unpin q w) h
+  pub here_unpin : HerePays p (Events.Unpin q w) h 1 0
   unfolding unpin
   here_unpin =
-      let a = entries-same (of_request step h.node.files l') (of_request step h.node.files l) h.side.book.rows same in
+      let a = entries-same (of_request h.node.files l') (of_request h.node.files l) h.side.book.rows same in
       let x = some-is (at l.pins w) allowed.0 in
       let b = total-cut of_pin l.pins w in
       let d = rw x.1 at b in
-      record { node = refl; workers = refl; born = refl; less = omega (arith, a, d) }
+      record { files = refl; own = omega (arith, a, d) }
