@@ -1,0 +1,5 @@
+pub mod Counting
+pub mod CountLaws
+pub mod Codes
+pub mod Tables
+pub mod Shown

@@ -1,0 +1,7 @@
+//! The tree of files: nodes in a slab, found by their numbers, and by their names in a directory.
+#![tactic(auto)]
+
+pub mod counts;
+pub mod bytes;
+pub mod node;
+pub mod nodes;
