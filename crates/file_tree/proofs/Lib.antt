@@ -1,3 +1,11 @@
 pub mod Stored
 pub mod Changed
 pub mod CountedRows
+pub mod Placed
+pub mod TagOrder
+pub mod Indexed
+pub mod Under
+pub mod Members
+pub mod Sorted
+pub mod Named
+pub mod IndexEdits

@@ -3,3 +3,5 @@ pub mod CountLaws
 pub mod Codes
 pub mod Tables
 pub mod Shown
+pub mod Tags
+pub mod Index

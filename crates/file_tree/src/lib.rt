@@ -5,3 +5,4 @@ pub mod counts;
 pub mod bytes;
 pub mod node;
 pub mod nodes;
+pub mod index;
