@@ -4,7 +4,7 @@ use Rattle.mck_word.specs.Maps.{Map, and_then, at}
 use Rattle.std.specs.Cmp.Lexicographic.{slice_cmp}
 use Rattle.std.specs.FinMap.Entries.{is_sorted}
 use Rattle.std.specs.Ordering.{is_gt, nat_cmp, ordering_then}
-use Rattle.std.specs.Prelude.{List, [], ◌∷◌, None, Option, Some, cond, option_map, suc, unwrap_or, ℕ}
+use Rattle.std.specs.Prelude.{Bool, List, [], ◌∷◌, ◌&&◌, ◌==◌, None, Option, Some, bytes_eq, cond, option_map, suc, unwrap_or, ℕ}
 use Rattle.std.specs.declared.cmp.Ordering.{Ordering}
 
 -- a directory with a name in it
@@ -28,6 +28,10 @@ named_as x = option_map (λ (name : Name). (x.parent, name)) x.name
 
 abbrev pub tag_in : Map Inode → ℕ → Option Tag
 tag_in m n = and_then (at m n) named_as
+
+-- whether a tag is that directory with that name
+abbrev pub is_tag : Tag → ℕ → Name → Bool
+is_tag t directory name = t.0 == directory && bytes_eq t.1 name
 
 -- how many entries at the front have keys below a key
 abbrev pub place : {K : Type 0} {X : Type 0} → (K → K → Ordering) → K → List (K × X) → ℕ

@@ -1,10 +1,11 @@
 // The nodes with names in the order of their directories and names.
-ghost use Rattle.std.specs.Prelude.{◌≡◌, ◌≤◌, ◌<◌, ◌+◌, Some, None, T, length, ℕ};
-ghost use Rattle.std.specs.FinMap.Entries.{is_sorted};
+ghost use Rattle.std.specs.Prelude.{◌≡◌, ◌≤◌, ◌<◌, ◌+◌, Some, None, T, IfSome, length, slice_get, ℕ};
+ghost use Rattle.std.specs.FinMap.Entries.{find as look_up, is_sorted};
 ghost use Rattle.std.specs.List.{AllByRecursion};
+ghost use Rattle.std.specs.Option.{option_copied};
 ghost use Rattle.std.specs.Ordering.{is_gt};
-ghost use Rattle.file_tree.specs.Index.{IsListed, tagged};
-ghost use Rattle.file_tree.specs.Tags.{place, tag_at, tag_cmp};
+ghost use Rattle.file_tree.specs.Index.{IsIndex, IsListed, names_under, tagged};
+ghost use Rattle.file_tree.specs.Tags.{is_tag, place, tag_at, tag_cmp};
 ghost use Rattle.mck_word.specs.Maps.{at};
 
 use crate::nodes::Nodes;
@@ -70,4 +71,50 @@ pub fn place_of(nodes: &Nodes, rows: &[Listed], tag: TagRef<'_>) -> usize
         }
     }
     low
+}
+
+/// Whether a listed node has that tag.
+fn has_tag(nodes: &Nodes, listed: Listed, tag: TagRef<'_>) -> bool
+    ensures { at nodes.now.keys listed.node ≡ Some listed.key → result ≡ is_tag (tag_at nodes.now.map listed.node) tag.entry.directory tag.entry.name.now }
+{
+    let own = tag_of(nodes, listed);
+    own.directory == tag.directory && own.name == tag.name
+}
+
+/// The node that is listed with that tag.
+pub fn find(nodes: &Nodes, rows: &[Listed], tag: TagRef<'_>) -> Option<u64>
+    requires { IsIndex nodes.now.map nodes.now.keys rows.now }
+    ensures { result ≡ look_up tag_cmp (tag.entry.directory, tag.entry.name.now) (tagged nodes.now.map rows.now) }
+{
+    let i = place_of(nodes, rows, tag);
+    if i >= rows.len() {
+        return None;
+    }
+    if has_tag(nodes, rows[i], tag) {
+        Some(rows[i].node)
+    } else {
+        None
+    }
+}
+
+/// The k-th name of a directory, from 0 on.
+pub fn name_at<'a>(nodes: &'a Nodes, rows: &[Listed], directory: u64, k: u64) -> Option<&'a [u8]>
+    requires { IsIndex nodes.now.map nodes.now.keys rows.now }
+    ensures name { option_copied result ≡ slice_get (names_under directory (tagged nodes.now.map rows.now)) k }
+    ensures few { IfSome result (λ _. k < length rows.now) }
+{
+    let first = TagRef {
+        directory,
+        name: &[],
+    };
+    let start = place_of(nodes, rows, first);
+    if k >= (rows.len() - start) as u64 {
+        return None;
+    }
+    let tag = tag_of(nodes, rows[start + k as usize]);
+    if tag.directory == directory {
+        Some(tag.name)
+    } else {
+        None
+    }
 }
