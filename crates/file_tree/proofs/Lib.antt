@@ -9,3 +9,4 @@ pub mod Members
 pub mod Sorted
 pub mod Named
 pub mod IndexEdits
+pub mod TreeWords

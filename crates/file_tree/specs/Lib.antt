@@ -5,3 +5,4 @@ pub mod Tables
 pub mod Shown
 pub mod Tags
 pub mod Index
+pub mod Trees

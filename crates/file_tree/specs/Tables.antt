@@ -27,3 +27,14 @@ pub record NodeTable : Type 0 where
   pub keys : Map ℕ
   pub next : ℕ
   pub spare : ℕ
+
+-- The nodes by their numbers, how many bytes each has memory for, the next number, how many nodes can be made without memory, how
+-- often each node is held, how many more can be held without memory, and how often a node can still be held.
+pub record TreeTable : Type 0 where
+  pub map : Map Inode
+  pub rooms : Map ℕ
+  pub next : ℕ
+  pub spare : ℕ
+  pub holds : Map ℕ
+  pub spare_holds : ℕ
+  pub left_holds : ℕ

@@ -6,3 +6,4 @@ pub mod bytes;
 pub mod node;
 pub mod nodes;
 pub mod index;
+pub mod tree;

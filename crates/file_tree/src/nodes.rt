@@ -121,6 +121,8 @@ impl Nodes {
     pub fn add(&mut self, node: Node) -> usize
         requires room { 1 ≤ self.old.spare }
         requires number { node.number ≡ self.old.next }
+        ensures fresh { at self.old.map self.old.next ≡ None }
+        ensures free { at self.old.keys self.old.next ≡ None }
         ensures map { self.new.map ≡ put self.old.map self.old.next node.inode }
         ensures keys { self.new.keys ≡ put self.old.keys self.old.next result }
         ensures next { self.new.next ≡ self.old.next + 1 }
