@@ -10,3 +10,5 @@ pub mod Sorted
 pub mod Named
 pub mod IndexEdits
 pub mod TreeWords
+pub mod Totals
+pub mod TreeKeeps

@@ -22,13 +22,13 @@ bytes_in m = total (λ (x : Inode). length x.bytes) m
 abbrev pub used_by : Map ℕ → ℕ → Inode → Bool
 used_by holds n x = n == root || is_some x.name || nat_lt 0 (count_in holds n)
 
-abbrev pub settled_row : Map ℕ → ℕ → Map Inode → Option Inode → Map Inode
-settled_row holds n m None = m
-settled_row holds n m (Some x) = cond (used_by holds n x) m (cut m n)
+abbrev pub used_row : Map ℕ → ℕ → Option Inode → Bool
+used_row holds n None = true
+used_row holds n (Some x) = used_by holds n x
 
 -- the nodes without that one, where it doesn't live any more
 abbrev pub settled_at : Map ℕ → ℕ → Map Inode → Map Inode
-settled_at holds n m = settled_row holds n m (at m n)
+settled_at holds n m = cond (used_row holds n (at m n)) m (cut m n)
 
 abbrev pub NodesUsed : Map ℕ → Map Inode → Type 0
 NodesUsed holds m = (n : ℕ) (x : Inode) → at m n ≡ Some x → used_by holds n x ≡ true

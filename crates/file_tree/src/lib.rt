@@ -7,3 +7,4 @@ pub mod node;
 pub mod nodes;
 pub mod index;
 pub mod tree;
+mod changes;
