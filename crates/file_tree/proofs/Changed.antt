@@ -10,8 +10,7 @@ use Rattle.mck_word.specs.Maps.{Map, at, change, cut, no_rows, put}
 use Rattle.slab.proofs.SlabLemmas.{Updates-with_value}
 use Rattle.slab.specs.Slab.{ContainsKey, Slab, Updates, get, with_value}
 use Rattle.std.proofs.Common.{ap, arith, refl, subst, sym, ◌∙◌}
-use Rattle.std.proofs.lemmas.Bool.Decides.{nat_tests}
-use Rattle.std.specs.Prelude.{IfSome, ◌+◌, IsSome, None, OnOk, Option, Result, Some, cond, is_some, true, unwrap_or, ℕ, ◌<◌, ◌==◌, ◌≡◌, ◌≤◌}
+use Rattle.std.specs.Prelude.{IfSome, ◌+◌, IsSome, None, OnOk, Option, Result, Some, is_some, unwrap_or, ℕ, ◌<◌, ◌≡◌, ◌≤◌}
 
 abbrev pub inode : NodeRow → Inode
 inode r = r.inode

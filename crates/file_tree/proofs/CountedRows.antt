@@ -1,8 +1,8 @@
 -- How many rows a map has whose values are seen in another form.
 use Rattle.key_rows.proofs.Placed.{below-of, find-below, tail-of}
 use Rattle.mck_word.specs.MapLaws.{at-collect_entries}
-use Rattle.mck_word.specs.Maps.{Map, and_then, at, collect, collect_entries, count, each, entries}
-use Rattle.std.proofs.Common.{ap, arith, refl, sym, ◌∙◌}
+use Rattle.mck_word.specs.Maps.{Map, and_then, collect, collect_entries, count, each, entries}
+use Rattle.std.proofs.Common.{ap, arith, sym, ◌∙◌}
 use Rattle.std.specs.Cmp.{nat_cmp_total}
 use Rattle.std.specs.FinMap as finmap
 use Rattle.std.specs.FinMap.{is_sorted}

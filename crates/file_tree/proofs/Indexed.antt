@@ -46,7 +46,7 @@ module _ (m : Map Inode) (keys : Map ℕ) (rows : List Listed) (tag : Tag) (d : 
       let one = each-get (IsListed m keys) rows i d each l in
       let long = length-tagged m rows in
       place-above tag_cmp tag_total tag_same tag i (tagged m rows) (entry m d) rises (omega arith)
-          (greater (tag_cmp tag (get_or (tagged m rows) i (entry m d)).0) (ap (λ (e : Tag × ℕ). is_gt (tag_cmp tag e.0)) (tagged-get m rows i d) ∙ sym (told one.0) ∙ is))
+      (greater (tag_cmp tag (get_or (tagged m rows) i (entry m d)).0) (ap (λ (e : Tag × ℕ). is_gt (tag_cmp tag e.0)) (tagged-get m rows i d) ∙ sym (told one.0) ∙ is))
     where
       greater : (o : Ordering) → is_gt o ≡ true → o ≡ Greater
       greater Less e = absurd (subst T (sym e) tt)

@@ -12,3 +12,4 @@ pub mod IndexEdits
 pub mod TreeWords
 pub mod Totals
 pub mod TreeKeeps
+pub mod TreeMoves

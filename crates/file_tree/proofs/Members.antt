@@ -10,7 +10,7 @@ use Rattle.std.specs.FinMap as finmap
 use Rattle.std.specs.FinMap.Entries as fin
 use Rattle.std.specs.List.{cons_option}
 use Rattle.std.specs.Ordering.{is_lt, nat_cmp}
-use Rattle.std.specs.Prelude.{Bool, List, None, Option, Some, T, [], cond, false, filter_map, find, is_some, nat_lt, true, unwrap_or, ℕ, ◌&&◌, ◌<◌, ◌==◌, ◌∷◌, ◌≡◌, ◌≢◌, ◌⊎◌}
+use Rattle.std.specs.Prelude.{Bool, List, None, Option, Some, T, [], cond, false, filter_map, find, is_some, nat_lt, true, unwrap_or, ℕ, ◌&&◌, ◌<◌, ◌==◌, ◌∷◌, ◌≡◌, ◌⊎◌}
 use Rattle.std.specs.declared.cmp.Ordering.TheVariants.{Equal, Greater, Less}
 
 abbrev pub In : {A : Type 0} → A → List A → Type 0

@@ -10,7 +10,7 @@ use Rattle.file_tree.specs.Tags.{Tag, named_as, tag_cmp, tag_in}
 use Rattle.key_rows.proofs.Placed.{below-of, tail-of}
 use Rattle.mck_word.specs.Lists.{sorted_by}
 use Rattle.mck_word.specs.Maps.{Map, and_then, at, entries}
-use Rattle.std.proofs.Common.{ap, arith, inl, inr, refl, subst, sym, ◌∙◌}
+use Rattle.std.proofs.Common.{ap, arith, inl, inr, refl, sym, ◌∙◌}
 use Rattle.std.proofs.lemmas.Bool.Decides.{nat_tests}
 use Rattle.std.proofs.lemmas.Bool.{eq-eqb, le-ltb, true≢false}
 use Rattle.std.proofs.lemmas.Slice.Eq.{bytes_eq-Decides}
@@ -20,7 +20,7 @@ use Rattle.std.specs.FinMap.Entries.{below_all, find as look_up, is_sorted}
 use Rattle.std.specs.FinMap.{nat_cmp-IsAntisymmetric, slice_cmp-IsAntisymmetric}
 use Rattle.std.specs.List.{cons_option}
 use Rattle.std.specs.Ordering.{is_eq, is_lt, nat_cmp, ordering_reverse, ordering_then}
-use Rattle.std.specs.Prelude.{Bool, List, None, Option, Some, T, [], bytes_eq, cond, false, filter_map, find, option_map, true, ℕ, ◌&&◌, ◌==◌, ◌∷◌, ◌≡◌, ◌<◌}
+use Rattle.std.specs.Prelude.{Bool, List, None, Option, Some, T, [], cond, false, filter_map, find, option_map, true, ℕ, ◌&&◌, ◌==◌, ◌∷◌, ◌≡◌}
 use Rattle.std.specs.declared.cmp.Ordering.TheVariants.{Equal, Greater, Less}
 use Rattle.std.specs.declared.cmp.Ordering.{Ordering}
 
@@ -223,9 +223,9 @@ module _ (m : Map Inode) (es : List (Tag × ℕ)) (rises : T (is_sorted tag_cmp 
       same-list bytes_before asym trans same (sorted_by bytes_before (filter_map (name_in d) (entries m))) (names_under d es)
       (rises-sorted bytes_before asym trans same (filter_map (name_in d) (entries m)) (distinct-names d (entries m) (finmap.entries_sorted m) (λ e i. i))) (rises-under d es rises)
       (λ z i.
-          let r = given-in (name_in d) (entries m) z (in-sorted bytes_before asym trans same z (filter_map (name_in d) (entries m)) i) in
-          under-in d z es r.0.0 (listed r.0.0 (d, z) (row-tag r.0 (d, z) r.1 (name-named d r.0 z r.2))))
+      let r = given-in (name_in d) (entries m) z (in-sorted bytes_before asym trans same z (filter_map (name_in d) (entries m)) i) in
+      under-in d z es r.0.0 (listed r.0.0 (d, z) (row-tag r.0 (d, z) r.1 (name-named d r.0 z r.2))))
       (λ z i.
-          let r = in-under d z es rises i in
-          let row = tag-row r.0 (d, z) (found (d, z) r.0 r.1) in
-          sorted-in bytes_before asym trans same z (filter_map (name_in d) (entries m)) (in-given (name_in d) (entries m) (r.0, row.0) z (at-in m r.0 row.0 row.1) (named-name d (r.0, row.0) z row.2)))
+      let r = in-under d z es rises i in
+      let row = tag-row r.0 (d, z) (found (d, z) r.0 r.1) in
+      sorted-in bytes_before asym trans same z (filter_map (name_in d) (entries m)) (in-given (name_in d) (entries m) (r.0, row.0) z (at-in m r.0 row.0 row.1) (named-name d (r.0, row.0) z row.2)))

@@ -1,6 +1,6 @@
 -- What stands at a key's place in entries that rise, and what an edit there does.
 use Rattle.file_tree.specs.Tags.{place}
-use Rattle.std.proofs.Common.{◌≡◌, ◌≢◌, ℕ, zero, suc, ◌<◌, ◌≤◌, Bool, true, false, cond, not, List, [], ◌∷◌, length, get_or, Option, Some, None, refl, sym, ap, subst, ◌∙◌, arith}
+use Rattle.std.proofs.Common.{◌≡◌, ◌≢◌, ℕ, zero, suc, ◌<◌, ◌≤◌, Bool, true, false, cond, not, List, [], ◌∷◌, length, get_or, Some, None, refl, sym, ap, subst, ◌∙◌, arith}
 use Rattle.std.specs.Cmp.{IsTotalOrder}
 use Rattle.std.specs.FinMap.{IsAntisymmetric}
 use Rattle.std.specs.FinMap.Entries.{below_all, by_order, find, is_sorted, put, where_key}
@@ -85,7 +85,7 @@ module _ {K X : Type 0} (R : K → K → Ordering) (total : IsTotalOrder R) (sam
   find-at q [] d h e = absurd (omega arith)
   find-at q (x ∷ es) d h e =
       elim (R q x.0) as (λ o. R q x.0 ≡ o → cond (is_gt o) (suc (place R q es)) 0 < suc (length es) → (get_or (x ∷ es) (cond (is_gt o) (suc (place R q es)) 0) d).0 ≡ q
-          → cond (is_eq o) (Some x.1) (find R q es) ≡ Some (get_or (x ∷ es) (cond (is_gt o) (suc (place R q es)) 0) d).1) [
+      → cond (is_eq o) (Some x.1) (find R q es) ≡ Some (get_or (x ∷ es) (cond (is_gt o) (suc (place R q es)) 0) d).1) [
         | Less ↦ λ o h e. absurd (subst (λ (r : Ordering). T (is_lt r)) (sym o ∙ ap (R q) e ∙ tied R total q) tt)
         | Equal ↦ λ o h e. refl
         | Greater ↦ λ o h e. find-at q es d (omega arith) e

@@ -1,9 +1,9 @@
 -- Lists in strictly rising order are the same where they have the same members.
 use Rattle.file_tree.proofs.Members.{In}
 use Rattle.mck_word.specs.Lists.{insert_by, sorted_by}
-use Rattle.std.proofs.Common.{ap, inl, inr, refl, subst, sym, ◌∙◌}
+use Rattle.std.proofs.Common.{ap, inl, inr, refl, sym, ◌∙◌}
 use Rattle.std.proofs.lemmas.Bool.{true≢false}
-use Rattle.std.specs.Prelude.{Bool, List, [], cond, false, true, ◌∷◌, ◌≡◌, ◌≢◌, ◌⊎◌}
+use Rattle.std.specs.Prelude.{Bool, List, [], cond, false, true, ◌∷◌, ◌≡◌, ◌⊎◌}
 
 -- no element stands twice
 abbrev pub Distinct : {A : Type 0} → List A → Type 0

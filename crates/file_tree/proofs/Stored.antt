@@ -1,12 +1,11 @@
 -- The nodes by their numbers, after the slab or the keys change.
-use Rattle.file_model.specs.Files.{Inode}
 use Rattle.file_tree.specs.Shown.{AreStored, no_row, row_at, shown}
 use Rattle.file_tree.specs.Tables.{NodeRow, most_numbers}
 use Rattle.mck_word.specs.EachLaws.{at-each, each-cut, each-put}
 use Rattle.mck_word.specs.MapLaws.{at-cut, at-put, same_rows}
 use Rattle.mck_word.specs.Maps.{Map, at, change, change_row, cut, each, put}
-use Rattle.slab.specs.Slab.{ContainsKey, Slab, Updates, get}
-use Rattle.std.proofs.Common.{ap, arith, inl, inr, refl, subst, sym, ◌∙◌}
+use Rattle.slab.specs.Slab.{Slab, Updates, get}
+use Rattle.std.proofs.Common.{ap, arith, inl, inr, refl, sym, ◌∙◌}
 use Rattle.std.proofs.lemmas.Bool.Decides.{nat_tests}
 use Rattle.std.proofs.lemmas.Bool.{cases_eq, true≢false}
 use Rattle.std.specs.Prelude.{Bool, ◌⊎◌, ◌+◌, ◌<◌, None, Option, Some, cond, false, is_some, option_map, true, unwrap_or, ℕ, ◌==◌, ◌≡◌, ◌≢◌}

@@ -1,11 +1,10 @@
 -- Sums over the rows of a map, after a row is put or taken away.
-use Rattle.file_tree.proofs.Members.{In, at-in}
-use Rattle.key_rows.proofs.Placed.{below-of, find-below, tail-of}
+use Rattle.key_rows.proofs.Placed.{below-of, tail-of}
 use Rattle.mck_word.specs.MapLaws.{at-cut, at-put, same_rows}
 use Rattle.mck_word.specs.Maps.{Map, at, cut, entries, no_rows, put, total}
-use Rattle.std.proofs.Common.{ap, arith, inl, inr, refl, subst, sym, ◌∙◌}
+use Rattle.std.proofs.Common.{ap, arith, refl, sym, ◌∙◌}
 use Rattle.std.proofs.lemmas.Bool.Decides.{nat_tests}
-use Rattle.std.proofs.lemmas.Bool.{cases_lt, eq-eqb, le-ltb, lt-ltb, ne_eqb}
+use Rattle.std.proofs.lemmas.Bool.{eq-eqb, lt-ltb}
 use Rattle.std.proofs.lemmas.List.Sums.{sum_by-cons}
 use Rattle.std.specs.Cmp.{nat_cmp_total}
 use Rattle.std.specs.FinMap as finmap

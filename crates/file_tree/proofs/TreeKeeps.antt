@@ -1,13 +1,13 @@
 -- What a tree keeps while its nodes change.
 use Rattle.file_model.specs.Files.{Inode, Name, no_node, root}
-use Rattle.file_tree.proofs.IndexEdits.{index-added, index-kept, index-removed, index-unlinked}
+use Rattle.file_tree.proofs.IndexEdits.{index-kept, index-removed, index-unlinked}
 use Rattle.file_tree.proofs.Indexed.{length-tagged}
 use Rattle.file_tree.proofs.Members.{no-value, value-same}
 use Rattle.file_tree.proofs.Named.{named-is, unnamed}
 use Rattle.file_tree.proofs.Placed.{found-at}
 use Rattle.file_tree.proofs.Stored.{at-here, at-other, change-absent, change-same, change-there}
 use Rattle.file_tree.proofs.TagOrder.{tag_same, tag_total}
-use Rattle.file_tree.proofs.Totals.{counted, one-most, total-cut, total-put}
+use Rattle.file_tree.proofs.Totals.{counted, total-cut, total-put}
 use Rattle.file_tree.specs.CountLaws.{count-lowered, count-raised, one_at}
 use Rattle.file_tree.specs.Counting.{count_in, lowered, raised}
 use Rattle.file_tree.specs.Index.{IsIndex, tagged}
@@ -15,12 +15,12 @@ use Rattle.file_tree.specs.Tags.{Tag, named_as, place, tag_at, tag_cmp, tag_in, 
 use Rattle.file_tree.specs.Trees.{NodesUsed, bytes_in, node_in, settled_at, used_by, used_row}
 use Rattle.file_tree.specs.declared.index.Listed.{Listed}
 use Rattle.mck_word.specs.MapLaws.{at-cut}
-use Rattle.mck_word.specs.Maps.{Map, and_then, at, change, cut, put, total}
+use Rattle.mck_word.specs.Maps.{Map, and_then, at, change, cut, put}
 use Rattle.std.proofs.Common.{ap, arith, inl, inr, refl, subst, sym, ◌∙◌}
 use Rattle.std.proofs.lemmas.Bool.Decides.{nat_tests}
 use Rattle.std.proofs.lemmas.Bool.{cases_eq, true≢false}
 use Rattle.std.specs.List.{remove}
-use Rattle.std.specs.Prelude.{Bool, List, None, Option, Some, T, cond, false, is_some, length, nat_lt, option_map, true, unwrap_or, ℕ, ◌+◌, ◌-◌, ◌<◌, ◌==◌, ◌||◌, ◌≡◌, ◌≢◌, ◌≤◌, ◌⊎◌}
+use Rattle.std.specs.Prelude.{Bool, List, None, Option, Some, T, cond, false, is_some, length, nat_lt, option_map, true, unwrap_or, ℕ, ◌+◌, ◌<◌, ◌==◌, ◌||◌, ◌≡◌, ◌≢◌, ◌≤◌, ◌⊎◌}
 
 -- ---- which nodes live
 
@@ -34,7 +34,7 @@ at-change m n q f apart = go (at m n) refl
     go None e = ap (λ (k : Map Inode). at k q) (change-absent m n f e)
     go (Some x) e = ap (λ (k : Map Inode). at k q) (change-there m n f x e) ∙ at-other m n q (f x) apart
 
-at-changed : (m : Map Inode) (n : ℕ) (f : Inode → Inode) → at (change m n f) n ≡ option_map f (at m n)
+pub at-changed : (m : Map Inode) (n : ℕ) (f : Inode → Inode) → at (change m n f) n ≡ option_map f (at m n)
 at-changed m n f = go (at m n) refl
   where
     go : (o : Option Inode) → at m n ≡ o → at (change m n f) n ≡ option_map f o
@@ -73,9 +73,9 @@ used-raised holds n m h = λ q x e. more-used holds (raised n holds) q x (let is
 pub used-released : (holds : Map ℕ) (n : ℕ) (m : Map Inode) → NodesUsed holds m → NodesUsed (lowered n holds) (settled_at (lowered n holds) n m)
 used-released holds n m h =
     used-settled (lowered n holds) n m (λ q x apart e. (
-        let is = count-lowered n holds q in
-        let none : one_at n q ≡ 0 = (let b : (q == n) ≡ false = grind (arith, nat_tests, apart) in ap (λ (b : Bool). cond b 1 0) b) in
-        more-used holds (lowered n holds) q x (omega arith) (h q x e)))
+    let is = count-lowered n holds q in
+    let none : one_at n q ≡ 0 = (let b : (q == n) ≡ false = grind (arith, nat_tests, apart) in ap (λ (b : Bool). cond b 1 0) b) in
+    more-used holds (lowered n holds) q x (omega arith) (h q x e)))
 
 pub used-unlinked : (holds : Map ℕ) (n : ℕ) (m : Map Inode) (f : Inode → Inode) → NodesUsed holds m → NodesUsed holds (settled_at holds n (change m n f))
 used-unlinked holds n m f h = used-settled holds n (change m n f) (λ q x apart e. h q x (sym (at-change m n q f apart) ∙ e))
@@ -190,7 +190,7 @@ index-unnamed m keys rows n i is h = go (at m n) refl (tag_in m n) refl is
     go None e (Some t) f g = no-value t (sym (sym (ap (λ o. and_then o named_as) e) ∙ f))
     go (Some x) e (Some t) f g =
         subst (λ (k : Map Inode). IsIndex k keys (remove rows i)) (sym (change-there m n (λ (x : Inode). record x { name = None }) x e))
-            (subst (λ (j : ℕ). IsIndex (put m n (record x { name = None })) keys (remove rows j)) (sym (value-same i (place tag_cmp t (tagged m rows)) g)) (index-unlinked m keys rows h n t f (record x { name = None }) refl))
+        (subst (λ (j : ℕ). IsIndex (put m n (record x { name = None })) keys (remove rows j)) (sym (value-same i (place tag_cmp t (tagged m rows)) g)) (index-unlinked m keys rows h n t f (record x { name = None }) refl))
 
 -- a node without a name stays as it is
 pub unnamed-same : (m : Map Inode) (keys : Map ℕ) (rows : List Listed) (n : ℕ) → None ≡ option_map (λ (t : Tag). place tag_cmp t (tagged m rows)) (tag_in m n) → m ≡ change m n (λ (x : Inode). record x { name = None })

@@ -1,20 +1,18 @@
 -- The names of a directory stand one behind another in entries that rise.
 use Rattle.file_model.specs.Files.{Name}
-use Rattle.file_tree.proofs.Placed.{above, head-below, tail-sorted}
+use Rattle.file_tree.proofs.Placed.{head-below, tail-sorted}
 use Rattle.file_tree.proofs.TagOrder.{tag_same, tag_total}
 use Rattle.file_tree.specs.Index.{name_under, names_under}
 use Rattle.file_tree.specs.Tags.{Tag, place, tag_cmp}
 use Rattle.mck_word.specs.Maps.{and_then}
 use Rattle.std.proofs.Common.{ap, arith, inl, inr, refl, subst, sym, ◌∙◌}
-use Rattle.std.proofs.lemmas.Bool.Decides.{nat_tests}
 use Rattle.std.proofs.lemmas.Bool.{cases_lt, eq-eqb, le-ltb, lt-ltb, ne_eqb}
 use Rattle.std.specs.Cmp.Lexicographic.{slice_cmp}
 use Rattle.std.specs.FinMap.Entries.{below_all, is_sorted}
 use Rattle.std.specs.List.{cons_option, slice_get}
 use Rattle.std.specs.Ordering.{is_gt, is_lt, nat_cmp, ordering_then}
-use Rattle.std.specs.Prelude.{Bool, List, None, Option, Some, T, [], cond, false, filter_map, nat_lt, suc, true, zero, ℕ, ◌&&◌, ◌+◌, ◌<◌, ◌==◌, ◌∷◌, ◌≡◌, ◌≤◌}
+use Rattle.std.specs.Prelude.{Bool, List, None, Option, Some, T, [], cond, false, suc, true, zero, ℕ, ◌&&◌, ◌+◌, ◌<◌, ◌==◌, ◌∷◌, ◌≡◌, ◌≤◌}
 use Rattle.std.specs.declared.cmp.Ordering.TheVariants.{Equal, Greater, Less}
-use Rattle.std.specs.declared.cmp.Ordering.{Ordering}
 
 -- all entries are of that directory or of one behind it
 abbrev From : ℕ → List (Tag × ℕ) → Type 0

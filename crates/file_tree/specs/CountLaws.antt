@@ -4,7 +4,7 @@ use Rattle.mck_word.specs.MapLaws.{at-cut, at-none, at-put, same_rows}
 use Rattle.mck_word.specs.Maps.{Map, at, cut, no_rows, put}
 use Rattle.std.proofs.Common.{ap, arith, refl, sym, ◌∙◌}
 use Rattle.std.proofs.lemmas.Bool.Decides.{nat_tests}
-use Rattle.std.specs.Prelude.{Bool, None, Option, Some, cond, false, nat_lt, true, unwrap_or, ℕ, ◌+◌, ◌-◌, ◌<◌, ◌==◌, ◌≡◌, ◌≤◌}
+use Rattle.std.specs.Prelude.{Bool, None, Option, Some, cond, false, nat_lt, true, unwrap_or, ℕ, ◌+◌, ◌-◌, ◌==◌, ◌≡◌, ◌≤◌}
 
 pub count-none : (n : ℕ) → count_in no_rows n ≡ 0
 count-none n = ap (λ (o : Option ℕ). unwrap_or o 0) (at-none n)

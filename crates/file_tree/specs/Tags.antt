@@ -2,9 +2,8 @@
 use Rattle.file_model.specs.Files.{Inode, Name, no_node}
 use Rattle.mck_word.specs.Maps.{Map, and_then, at}
 use Rattle.std.specs.Cmp.Lexicographic.{slice_cmp}
-use Rattle.std.specs.FinMap.Entries.{is_sorted}
 use Rattle.std.specs.Ordering.{is_gt, nat_cmp, ordering_then}
-use Rattle.std.specs.Prelude.{Bool, List, [], ◌∷◌, ◌&&◌, ◌==◌, None, Option, Some, bytes_eq, cond, option_map, suc, unwrap_or, ℕ}
+use Rattle.std.specs.Prelude.{Bool, List, [], ◌∷◌, ◌&&◌, ◌==◌, Option, bytes_eq, cond, option_map, suc, unwrap_or, ℕ}
 use Rattle.std.specs.declared.cmp.Ordering.{Ordering}
 
 -- a directory with a name in it

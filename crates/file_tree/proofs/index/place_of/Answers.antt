@@ -1,7 +1,5 @@
-use Rattle.std.proofs.Common.{◌+◌, ◌-◌, ◌/◌, ◌<◌, ◌≤◌, arith, length}
+use Rattle.std.proofs.Common.{◌+◌, ◌-◌, ◌/◌, ◌<◌, arith, length}
 use Rattle.file_tree.proofs.Indexed.{before, behind, place-within}
-use Rattle.file_tree.specs.Index.{tagged}
-use Rattle.file_tree.specs.Tags.{place, tag_cmp}
 use Rattle.file_tree.proofs.index.place_of.Goals as goal
 
 pub loop-low-init : goal.loop-low-init

@@ -1,4 +1,4 @@
-use Rattle.std.proofs.Common.{◌≤◌, ap, subst, sym}
+use Rattle.std.proofs.Common.{◌≤◌, subst, sym}
 use Rattle.file_tree.specs.Counting.{count_in}
 use Rattle.file_tree.specs.CountLaws.{lowered-most}
 use Rattle.mck_word.specs.Maps.{Map}

@@ -1,4 +1,4 @@
-use Rattle.std.proofs.Common.{◌≤◌, ◌∙◌, ap, arith}
+use Rattle.std.proofs.Common.{◌∙◌, ap, arith}
 use Rattle.file_tree.specs.Counting.{count_in}
 use Rattle.file_tree.specs.CountLaws.{count-none}
 use Rattle.file_tree.proofs.counts.Counts.new.Goals as goal

@@ -1,4 +1,4 @@
-use Rattle.std.proofs.Common.{None, Some, ap, sym, ◌∙◌}
+use Rattle.std.proofs.Common.{None, ap, sym, ◌∙◌}
 use Rattle.file_tree.proofs.Stored.{lent-shown, shown-at}
 use Rattle.mck_word.specs.Maps.{at}
 use Rattle.std.specs.Option.{option_copied}

@@ -8,7 +8,7 @@ use Rattle.file_tree.specs.Trees.{files_of}
 use Rattle.file_tree.proofs.tree.Tree.find.Goals as goal
 
 pub returns : goal.returns
-returns c = 
+returns c =
     c.find.ensures ∙ ap (λ rows. look_up tag_cmp (c.args.directory, c.args.name.now) (tagged c.self.inside.nodes.map rows)) c.deref.ensures.value
     ∙ sym (index-child c.self.inside.nodes.map c.self.inside.nodes.keys c.self.inside.names.items c.self.invariant.index c.args.directory c.args.name.now)
     ∙ ap (λ t. paths.child (files_of t) c.args.directory c.args.name.now) c.self.view_is
