@@ -1,0 +1,4 @@
+//! The files of the Linux side.
+#![tactic(auto)]
+
+pub mod pipe;
