@@ -15,6 +15,8 @@
 //! The act of a reading or writing call asks for `FewCalls` (specs/FileSteps): a description counts the calls that hold it in 32
 //! bits, and one more has to fit. A call holds at most one description and a thread has at most one call, so a caller knows it from
 //! the number of its threads: fewer than 2^32 - 1 are enough.
+//!
+//! What a report reads of a store beside the questions of the calls, its nodes and consoles in order, is asked by `listing::Listing`.
 #![tactic(auto)]
 
 pub mod descriptors;
@@ -22,6 +24,7 @@ pub mod entries;
 pub mod errno;
 pub mod get;
 pub mod given;
+pub mod listing;
 pub mod names;
 pub mod open;
 pub mod put;

@@ -6,3 +6,4 @@ pub mod KthNames
 pub mod Rows
 pub mod Sorting
 pub mod JobFiles
+pub mod GuestConsoles

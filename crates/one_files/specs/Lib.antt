@@ -1,4 +1,5 @@
 pub mod Codes
+pub mod Guests
 pub mod Named
 pub mod Opened
 pub mod Seen

@@ -6,9 +6,11 @@
 #![tactic(auto)]
 
 pub mod console;
+pub mod consoles;
 pub mod descriptors;
 pub mod file_bytes;
 mod job;
+mod listing;
 pub mod names;
 pub mod node;
 pub mod nodes;
@@ -24,7 +26,7 @@ ghost use Rattle.std.specs.Prelude.{◌≡◌, IfOk};
 ghost use Rattle.file_model.specs.Files.{root_only};
 ghost use Rattle.one_files.specs.Seen.{seen};
 
-use console::Console;
+use consoles::Consoles;
 use descriptors::Descriptors;
 use key_rows::Rows;
 use mck_word::NoMemory;
@@ -42,7 +44,7 @@ pub struct RowFiles {
     pipes: Rows<Stream>,
     descriptions: Rows<OpenFile>,
     descriptors: Rows<Descriptors>,
-    consoles: Rows<Console>,
+    consoles: Consoles,
     spare: Vec<u8>,
     alloc: Global,
 }
@@ -57,7 +59,7 @@ impl RowFiles {
             pipes: Rows::new(alloc),
             descriptions: Rows::new(alloc),
             descriptors: Rows::new(alloc),
-            consoles: Rows::new(alloc),
+            consoles: Consoles::new(alloc),
             spare: Vec::new(alloc),
             alloc,
         })

@@ -93,9 +93,8 @@ impl RowFiles {
     {
         let input = Stream::from_slice(self.alloc, input)?;
         self.reserve_opens(3)?;
-        self.consoles.reserve(1)?;
-        self.consoles
-            .put(pid.0 as u64, Console::new(self.alloc, input));
+        self.consoles.reserve()?;
+        self.consoles.put(pid.0, Console::new(self.alloc, input));
         self.open_console(pid);
         Ok(())
     }

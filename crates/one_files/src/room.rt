@@ -77,7 +77,7 @@ impl RowFiles {
         ensures len { result ≡ length (console_of (seen self.now) guest).output }
         ensures bound { result < 2 ^ 63 }
     {
-        match self.consoles.get(guest as u64) {
+        match self.consoles.get(guest) {
             Some(console) => console.output().len() as u64,
             None => 0,
         }

@@ -164,7 +164,7 @@ impl FileStore for RowFiles {
     }
 
     fn input_len(&self, guest: u32) -> u64 {
-        match self.consoles.get(guest as u64) {
+        match self.consoles.get(guest) {
             Some(console) => console.input_len() as u64,
             None => 0,
         }
@@ -187,9 +187,7 @@ impl FileStore for RowFiles {
     }
 
     fn take_input(&mut self, guest: u32, into: &mut [u8]) {
-        if self.consoles.get(guest as u64).is_some() {
-            self.consoles.row_mut(guest as u64).take_input(into);
-        }
+        self.consoles.take_input(guest, into);
     }
 
     fn write_file(&mut self, node: u64, offset: u64, from: &[u8]) {
@@ -204,11 +202,7 @@ impl FileStore for RowFiles {
     }
 
     fn add_output(&mut self, guest: u32, from: &[u8]) {
-        if self.consoles.get(guest as u64).is_some() {
-            self.consoles
-                .row_mut(guest as u64)
-                .add_output(from, &mut self.spare);
-        }
+        self.consoles.add_output(guest, from, &mut self.spare);
     }
 
     fn make_room(&mut self, op: &FileOp) -> Result<(), NoMemory> {
@@ -235,7 +229,7 @@ impl FileStore for RowFiles {
     }
 
     fn output(&self, guest: Pid) -> Option<&[u8]> {
-        match self.consoles.get(guest.0 as u64) {
+        match self.consoles.get(guest.0) {
             Some(console) => Some(console.output()),
             None => None,
         }
