@@ -1,6 +1,6 @@
 pub mod Stored
 pub mod Changed
-pub mod CountedRows
+pub mod EachRows
 pub mod Placed
 pub mod TagOrder
 pub mod Indexed

@@ -1,10 +1,10 @@
 // The nodes of the tree by their numbers.
-ghost use Rattle.std.specs.Prelude.{◌≡◌, ◌≤◌, ◌<◌, ◌+◌, ◌^◌, [], Some, None, OnOk, OnErr, IfOk, IfSome, ℕ, length, option_map};
+ghost use Rattle.std.specs.Prelude.{◌≡◌, ◌≤◌, ◌<◌, ◌+◌, ◌^◌, [], Some, None, OnOk, OnErr, IfOk, IfSome, ℕ, length, option_map, slice_get};
 ghost use Rattle.std.specs.Option.{option_copied};
 ghost use Rattle.file_model.specs.Files.{Inode, empty_directory, root};
 ghost use Rattle.file_tree.specs.Tables.{NodeRow};
 ghost use Rattle.mck_word.specs.Lists.{spliced};
-ghost use Rattle.mck_word.specs.Maps.{at, change, count, cut, no_rows, put};
+ghost use Rattle.mck_word.specs.Maps.{at, change, count, cut, keys, no_rows, put};
 
 use crate::node::Node;
 use key_rows::Rows;
@@ -92,6 +92,17 @@ impl Nodes {
         ensures { result ≡ count self.now.map }
     {
         self.keys.len() as u64
+    }
+
+    /// The number of the node at a place among all, from 0 on: None exactly past the last.
+    pub fn number_at(&self, place: u64) -> Option<u64>
+        ensures { result ≡ slice_get (keys self.now.map) place }
+    {
+        let rows = self.keys.as_slice();
+        if place >= rows.len() as u64 {
+            return None;
+        }
+        Some(rows[place as usize].0)
     }
 
     /// The number of the next node.

@@ -5,7 +5,7 @@ ghost use Rattle.file_model.specs.Files.{empty_directory, root};
 ghost use Rattle.file_model.specs.Paths as paths;
 ghost use Rattle.file_tree.specs.Counting.{count_in};
 ghost use Rattle.file_tree.specs.Trees.{bytes_in, files_of, node_in};
-ghost use Rattle.mck_word.specs.Maps.{count, no_rows, put};
+ghost use Rattle.mck_word.specs.Maps.{count, keys};
 
 use crate::counts::Counts;
 use crate::index::{Listed, TagRef, find, name_at};
@@ -94,6 +94,13 @@ impl Tree {
         ensures { result ≡ count self.now.map }
     {
         self.nodes.count()
+    }
+
+    /// The number of the node at a place among all, from 0 on: None exactly past the last.
+    pub fn number_at(&self, place: u64) -> Option<u64>
+        ensures { result ≡ slice_get (keys self.now.map) place }
+    {
+        self.nodes.number_at(place)
     }
 
     /// The number of the next node.

@@ -1,6 +1,6 @@
 use Rattle.std.proofs.Common.{ap, sym, ◌∙◌}
 use Rattle.file_tree.proofs.Changed.{inode}
-use Rattle.file_tree.proofs.CountedRows.{count-each}
+use Rattle.file_tree.proofs.EachRows.{count-each}
 use Rattle.file_tree.specs.Shown.{row_at}
 use Rattle.mck_word.specs.Maps.{count}
 use Rattle.file_tree.proofs.nodes.Nodes.count.Goals as goal
