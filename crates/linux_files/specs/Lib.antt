@@ -1,1 +1,5 @@
 pub mod Rings
+pub mod Tables
+pub mod Codes
+pub mod Slotted
+pub mod Consoles

@@ -2,3 +2,8 @@
 #![tactic(auto)]
 
 pub mod pipe;
+pub mod pipes;
+pub mod console;
+pub mod consoles;
+pub mod descriptors;
+pub mod open_file;

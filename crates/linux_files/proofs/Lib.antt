@@ -1,0 +1,2 @@
+pub mod RowKeeps
+pub mod Slots
