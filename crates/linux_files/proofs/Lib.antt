@@ -1,2 +1,6 @@
 pub mod RowKeeps
 pub mod Slots
+pub mod SomeRow
+pub mod Settled
+pub mod Drops
+pub mod Begins

@@ -7,3 +7,5 @@ pub mod console;
 pub mod consoles;
 pub mod descriptors;
 pub mod open_file;
+mod parts;
+mod settle;
