@@ -249,10 +249,10 @@ module _ (m : Map Inode) (keys : Map ℕ) (rows : List Listed) (h : IsIndex m ke
 
 -- ---- a node without a name is taken out
 
-at-left : {V : Type 0} (m : Map V) (n q : ℕ) → q ≢ n → at (cut m n) q ≡ at m q
+pub at-left : {V : Type 0} (m : Map V) (n q : ℕ) → q ≢ n → at (cut m n) q ≡ at m q
 at-left m n q apart = at-cut m n q ∙ (let b : (q == n) ≡ false = grind (arith, nat_tests, apart) in ap (λ b. cond b None (at m q)) b)
 
-at-gone : {V : Type 0} (m : Map V) (n q : ℕ) → q ≡ n → at (cut m n) q ≡ None
+pub at-gone : {V : Type 0} (m : Map V) (n q : ℕ) → q ≡ n → at (cut m n) q ≡ None
 at-gone m n q same = at-cut m n q ∙ (let b : (q == n) ≡ true = grind (arith, nat_tests, same) in ap (λ b. cond b None (at m q)) b)
 
 module _ (m : Map Inode) (keys : Map ℕ) (rows : List Listed) (h : IsIndex m keys rows) (n : ℕ) (none : tag_in m n ≡ None) where

@@ -23,6 +23,7 @@ store-new p holds named readers writers descriptions descriptors pipes = record 
       writers = λ q. none_at p.writers.counts writers q ∙ sym (none_open _);
     };
     pipes = λ q bytes e. no-value bytes (sym e ∙ ap (λ m. at m q) pipes ∙ at-none q);
+    small = λ d x e. no-value x (sym e ∙ ap (λ m. at m d) descriptions ∙ at-none d);
   };
   used = λ d x e. no-value x (sym e ∙ ap (λ m. at m d) descriptions ∙ at-none d);
 }

@@ -21,7 +21,7 @@ use Rattle.mck_word.specs.Maps.{Map, at, cut}
 use Rattle.std.proofs.Common.{ap, arith, inl, inr, refl, subst, sym, ◌∙◌}
 use Rattle.std.proofs.lemmas.Bool.Decides.{nat_tests}
 use Rattle.std.proofs.lemmas.Bool.{cases_eq, eq-eqb, ne_eqb, true≢false}
-use Rattle.std.specs.Prelude.{Bool, List, None, Option, Some, cond, false, is_some, nat_lt, true, ℕ, ◌+◌, ◌-◌, ◌==◌, ◌||◌, ◌≡◌, ◌≢◌, ◌⊎◌}
+use Rattle.std.specs.Prelude.{Bool, List, None, Option, Some, cond, false, is_some, nat_lt, true, ℕ, ◌+◌, ◌-◌, ◌<◌, ◌==◌, ◌^◌, ◌||◌, ◌≡◌, ◌≢◌, ◌⊎◌}
 
 -- ---- the words on files by counts
 
@@ -107,6 +107,9 @@ module _ (old new : Parts) (d : ℕ) (x : Description) (h : IsKept old) (there :
   fewer : (q : ℕ) (y : Description) → at new.descriptions.map q ≡ Some y → at old.descriptions.map q ≡ Some y
   fewer q y e = at-cut-there old.descriptions.map d q y (sym (ap (λ (m : Map Description). at m q) descriptions) ∙ e)
 
+  small : (q : ℕ) (y : Description) → at new.descriptions.map q ≡ Some y → q < 2 ^ 32
+  small q y e = h.small q y (fewer q y e)
+
   still-named : (q : ℕ) → count_in new.named.counts q ≡ names_of new.descriptors.map q
   still-named q = ap (λ m. count_in m q) named ∙ h.counted.named q ∙ ap (λ m. names_of m q) (sym descriptors)
 
@@ -147,7 +150,7 @@ module _ (old new : Parts) (d : ℕ) (x : Description) (h : IsKept old) (there :
 
     pub node-dropped : Follows old new
     unfolding without
-    node-dropped = follows (record { counted = node-counted; pipes = node-pipes }) (
+    node-dropped = follows (record { counted = node-counted; pipes = node-pipes; small = small }) (
         (λ i. settled (record { nodes = nodes i; next_node = next i; pipes = pipes i; descriptions = descriptions i; descriptors = descriptors i; consoles = consoles i }))
         ∙ node-settles without (lowered n old.tree.holds) n node-now)
 
@@ -178,7 +181,7 @@ module _ (old new : Parts) (d : ℕ) (x : Description) (h : IsKept old) (there :
 
     pub end-dropped : Follows old new
     unfolding without
-    end-dropped = follows (record { counted = counted_now; pipes = end-pipes }) (
+    end-dropped = follows (record { counted = counted_now; pipes = end-pipes; small = small }) (
         (λ i. settled (record { nodes = nodes i; next_node = next i; pipes = pipes i; descriptions = descriptions i; descriptors = descriptors i; consoles = consoles i }))
         ∙ pipe-settles without p (has_end new p) end-open)
 
@@ -214,4 +217,5 @@ module _ (old new : Parts) (d : ℕ) (x : Description) (h : IsKept old) (there :
       writers = λ q. still-counts (WriteEnd q) old.writers.counts new.writers.counts q writers (h.counted.writers q) (weighs (WriteEnd q) (OfConsole guest) target);
     };
     pipes = λ q bytes e. (λ i. loose-same q i || (nat_lt 0 (count_in (readers i) q) || nat_lt 0 (count_in (writers i) q))) ∙ h.pipes q bytes (sym (ap (λ (m : Map (List ℕ)). at m q) pipes) ∙ e);
+    small = small;
   }) (λ i. settled (record { nodes = nodes i; next_node = next i; pipes = pipes i; descriptions = descriptions i; descriptors = descriptors i; consoles = consoles i }))

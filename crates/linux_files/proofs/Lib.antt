@@ -4,3 +4,5 @@ pub mod SomeRow
 pub mod Settled
 pub mod Drops
 pub mod Begins
+pub mod NextKeys
+pub mod Settles

@@ -4,11 +4,13 @@ use Rattle.file_tree.proofs.Stored.{at-here, at-other, put-same}
 use Rattle.linux_files.specs.Consoles.{AreOfGuests}
 use Rattle.linux_files.specs.Tables.{ConsoleRow}
 use Rattle.mck_word.specs.EachLaws.{at-each, each-put}
-use Rattle.mck_word.specs.Maps.{Map, at, each, entries, put}
+use Rattle.key_rows.specs.Keeping.{kept}
+use Rattle.mck_word.specs.MapLaws.{at-collect, same_rows}
+use Rattle.mck_word.specs.Maps.{Map, and_then, at, each, entries, put}
 use Rattle.std.proofs.Common.{Bor, ap, arith, get_or, inl, inr, refl, subst, sym, ◌∙◌}
 use Rattle.std.proofs.lemmas.Bool.{cases_lt, true≢false}
 use Rattle.std.specs.Option.{option_copied}
-use Rattle.std.specs.Prelude.{Bool, IfSome, List, None, OnOk, Option, Result, Some, [], false, is_some, length, option_map, suc, take, zero, ℕ, ◌<◌, ◌^◌, ◌∷◌, ◌≡◌, ◌≤◌}
+use Rattle.std.specs.Prelude.{Bool, IfSome, List, None, OnOk, Option, Result, Some, [], cond, false, true, is_some, length, option_map, suc, take, zero, ℕ, ◌<◌, ◌^◌, ◌∷◌, ◌≡◌, ◌≤◌}
 
 module _ {V W : Type 0} (f : V → W) (m : Map V) (k : ℕ) where
   pub row-kept : (old new : V) (n : Map W) → each f m ≡ n → at m k ≡ Some old → f new ≡ f old → each f (put m k new) ≡ n
@@ -49,3 +51,14 @@ guest-fits m rows i d h are l = elim (cases_lt (get_or rows i d).0 (2 ^ 32)) [
       let there = in-at m (get_or rows i d) (subst (In (get_or rows i d)) are (in-get rows i d l)) in
       no-value (get_or rows i d).1 (sym there ∙ h (get_or rows i d).0 past)
 ]
+
+-- the rows that pass a test of their keys
+pub kept-each : {V W : Type 0} (f : V → W) (test : ℕ → Bool) (m : Map V) → each f (kept (λ k _. test k) m) ≡ kept (λ k _. test k) (each f m)
+kept-each {V} {W} f test m = same_rows _ _ (λ q.
+    at-each f (kept (λ k _. test k) m) q ∙ ap (option_map f) (at-collect (λ k v. cond (test k) (Some v) None) m q) ∙ go q (at m q) (test q)
+    ∙ sym (at-collect (λ k v. cond (test k) (Some v) None) (each f m) q ∙ ap (λ o. and_then o (λ v. cond (test q) (Some v) None)) (at-each f m q)))
+  where
+    go : (q : ℕ) (o : Option V) (b : Bool) → option_map f (and_then o (λ v. cond b (Some v) None)) ≡ and_then (option_map f o) (λ v. cond b (Some v) None)
+    go q None b = refl
+    go q (Some v) true = refl
+    go q (Some v) false = refl

@@ -3,7 +3,8 @@ use Rattle.file_model.specs.Files.{Files, Inode, is_named, is_open, is_same_targ
 use Rattle.file_model.specs.declared.descriptions.Description.{Description}
 use Rattle.file_model.specs.declared.descriptions.Target.TheVariants.{OfNode, ReadEnd, WriteEnd}
 use Rattle.file_model.specs.declared.descriptions.Target.{Target}
-use Rattle.linux_files.proofs.SomeRow.{collect-cut, collect-whole, collected-there, fewer-pass}
+use Rattle.key_rows.specs.Keeping.{kept}
+use Rattle.linux_files.proofs.SomeRow.{collect-cut, collect-twice, collect-whole, collected-there, fewer-pass}
 use Rattle.mck_word.specs.Maps.{Map, at, collect, cut}
 use Rattle.std.proofs.Common.{ap, refl, sym, ◌∙◌}
 use Rattle.std.proofs.lemmas.Bool.{true≢false}
@@ -53,6 +54,15 @@ without-pipe files p bytes there unused =
     let a = neither (is_open files (ReadEnd p)) (is_open files (WriteEnd p)) unused in
     let gone = no-or (is_open left (ReadEnd p)) (is_open left (WriteEnd p)) (still-closed files (ReadEnd p) a.0) (still-closed files (WriteEnd p) a.1) in
     ap (λ (m : Map (List ℕ)). record left { nodes = collect (used_node left) files.nodes; pipes = m }) (collect-cut (pipe_test left) files.pipes p bytes there gone)
+
+-- all pipes of which no end is open
+pub pipes-settle : (files : Files) (test : ℕ → Bool) → ((p : ℕ) → (is_open files (ReadEnd p) || is_open files (WriteEnd p)) ≡ test p) → settled (record files { pipes = kept (λ p bytes. test p) files.pipes }) ≡ settled files
+unfolding settled
+pipes-settle files test is =
+    let left = without_unused_descriptions files in
+    ap (λ (m : Map (List ℕ)). record left { nodes = collect (used_node left) files.nodes; pipes = m }) (collect-twice (λ p bytes. test p) (pipe_test left) files.pipes (λ p bytes e. (
+        let a = neither (is_open files (ReadEnd p)) (is_open files (WriteEnd p)) (is p ∙ e) in
+        no-or (is_open left (ReadEnd p)) (is_open left (WriteEnd p)) (still-closed files (ReadEnd p) a.0) (still-closed files (WriteEnd p) a.1))))
 
 -- where all is used
 pub all-used : (files : Files) → ((d : ℕ) (x : Description) → at files.descriptions d ≡ Some x → description_test files d x ≡ true) → ((n : ℕ) (x : Inode) → at files.nodes n ≡ Some x → node_test files n x ≡ true)

@@ -87,3 +87,18 @@ module _ {V : Type 0} where
         go : (q : ℕ) (o : Option V) → at m q ≡ o → and_then o (if_passes q) ≡ o
         go q None e = refl
         go q (Some v) e = ap (λ b. cond b (Some v) None) (h q v e)
+
+  -- a test after one that fails only where it fails
+  pub collect-twice : (first second : ℕ → V → Bool) (m : Map V) → ((k : ℕ) (v : V) → first k v ≡ false → second k v ≡ false)
+      → collect (λ k v. cond (second k v) (Some v) None) (collect (λ k v. cond (first k v) (Some v) None) m) ≡ collect (λ k v. cond (second k v) (Some v) None) m
+  collect-twice first second m h = same_rows _ _ (λ q.
+      at-collect (λ k v. cond (second k v) (Some v) None) (collect (λ k v. cond (first k v) (Some v) None) m) q ∙ ap (λ o. and_then o (λ v. cond (second q v) (Some v) None)) (at-collect (λ k v. cond (first k v) (Some v) None) m q)
+      ∙ go q (at m q) ∙ sym (at-collect (λ k v. cond (second k v) (Some v) None) m q))
+    where
+      by_first : (q : ℕ) (v : V) (b : Bool) → first q v ≡ b → and_then (cond b (Some v) None) (λ v. cond (second q v) (Some v) None) ≡ cond (second q v) (Some v) None
+      by_first q v true e = refl
+      by_first q v false e = ap (λ (b : Bool). cond b (Some v) None) (sym (h q v e))
+
+      go : (q : ℕ) (o : Option V) → and_then (and_then o (λ v. cond (first q v) (Some v) None)) (λ v. cond (second q v) (Some v) None) ≡ and_then o (λ v. cond (second q v) (Some v) None)
+      go q None = refl
+      go q (Some v) = by_first q v (first q v) refl

@@ -8,7 +8,7 @@ use Rattle.linux_files.specs.declared.parts.Loose.TheVariants.{AllOpen, Any, One
 use Rattle.linux_files.specs.declared.parts.Loose.{Loose}
 use Rattle.linux_files.specs.declared.parts.Parts.{Parts}
 use Rattle.mck_word.specs.Maps.{at}
-use Rattle.std.specs.Prelude.{Bool, List, Some, false, nat_lt, true, ℕ, ◌==◌, ◌||◌, ◌≡◌}
+use Rattle.std.specs.Prelude.{Bool, List, Some, false, nat_lt, true, ℕ, ◌<◌, ◌==◌, ◌^◌, ◌||◌, ◌≡◌}
 
 -- its files
 abbrev pub seen_parts : Parts → Files
@@ -53,6 +53,7 @@ DescriptionsUsed but p = (d : ℕ) (x : Description) → at p.descriptions.map d
 pub record IsKept (p : Parts) : Type 0 where
   pub counted : IsCounted p
   pub pipes : PipesOpen (may_be_loose p.loose) p
+  pub small : (d : ℕ) (x : Description) → at p.descriptions.map d ≡ Some x → d < 2 ^ 32
 
 -- what the store keeps
 pub record IsStore (p : Parts) : Type 0 where

@@ -1,11 +1,13 @@
 // The pipes by their numbers.
 ghost use Rattle.std.specs.Prelude.{◌≡◌, ◌≤◌, ◌<◌, ◌+◌, ◌-◌, ◌^◌, ◌++◌, [], List, None, OnOk, IfSome, ℕ, drop, is_some, length, take, true, unwrap_or};
 ghost use Rattle.file_model.specs.Files.{lowest_free};
-ghost use Rattle.key_rows.specs.Table.{key_from};
+ghost use Rattle.key_rows.specs.Keeping.{kept};
+ghost use Rattle.linux_files.specs.Rings.{is_counted};
 ghost use Rattle.mck_word.specs.Maps.{at, change, count, cut, no_rows, put};
 
 use crate::pipe::Pipe;
-use key_rows::Rows;
+use file_tree::counts::Counts;
+use key_rows::{RowTest, Rows};
 use mck_word::NoMemory;
 use std::alloc::Global;
 use std::marker::Model;
@@ -28,6 +30,23 @@ impl Model for Pipes {
     ghost coded = { pipes_code };
 
     ghost view = { λ p. record { map = each bytes_of p.rows.map; rooms = each room_of p.rows.map; spare = p.rows.spare } };
+}
+
+/// The test of pipes of which an end is counted.
+#[derive(Clone, Copy)]
+struct OpenPipes<'a> {
+    readers: &'a Counts,
+    writers: &'a Counts,
+}
+
+impl RowTest<Pipe> for OpenPipes<'_> {
+    ghost use Rattle.linux_files.specs.Rings.{is_counted};
+
+    ghost passes = { λ t pipe bytes. is_counted t.readers.now.counts t.writers.now.counts pipe };
+
+    fn is_kept(&self, pipe: u64, _bytes: &Pipe) -> bool {
+        self.readers.has(pipe) || self.writers.has(pipe)
+    }
 }
 
 #[tactic(auto, using(mck_word::specs::EachLaws::each_maps))]
@@ -75,13 +94,6 @@ impl Pipes {
         self.rows.first_free()
     }
 
-    /// The least number of a pipe from `from` on.
-    pub fn next(&self, from: u64) -> Option<u64>
-        ensures { result ≡ key_from self.now.map from }
-    {
-        self.rows.next(from)
-    }
-
     /// Makes room for `n` more pipes.
     pub fn reserve(&mut self, n: usize) -> Result<(), NoMemory>
         ensures map { self.new.map ≡ self.old.map }
@@ -121,6 +133,13 @@ impl Pipes {
         ensures spare { self.new.spare ≡ self.old.spare + 1 }
     {
         let _ = self.rows.remove(pipe);
+    }
+
+    /// Takes out the pipes of which neither end is counted.
+    pub fn retain(&mut self, readers: &Counts, writers: &Counts)
+        ensures { self.new.map ≡ kept (λ pipe bytes. is_counted readers.now.counts writers.now.counts pipe) self.old.map }
+    {
+        self.rows.retain(&OpenPipes { readers, writers });
     }
 
     /// Takes bytes out of a pipe.
