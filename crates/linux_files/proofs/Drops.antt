@@ -58,7 +58,7 @@ pipe-settles files p false is = go (at files.pipes p) refl
 
 -- ---- the counts after a description went
 
-turned : (a b : ℕ) → (a == b) ≡ (b == a)
+pub turned : (a b : ℕ) → (a == b) ≡ (b == a)
 turned a b = go (cases_eq a b)
   where
     go : (a ≡ b) ⊎ (a ≢ b) → (a == b) ≡ (b == a)

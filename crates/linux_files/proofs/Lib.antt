@@ -6,3 +6,5 @@ pub mod Drops
 pub mod Begins
 pub mod NextKeys
 pub mod Settles
+pub mod Lowest
+pub mod Opening

@@ -5,4 +5,5 @@ pub mod Slotted
 pub mod Counted
 pub mod Seen
 pub mod Steps
+pub mod Rooms
 pub mod Consoles

@@ -9,3 +9,4 @@ pub mod descriptors;
 pub mod open_file;
 mod parts;
 mod settle;
+mod opens;
