@@ -1,0 +1,15 @@
+pub mod Stored
+pub mod Changed
+pub mod EachRows
+pub mod Placed
+pub mod TagOrder
+pub mod Indexed
+pub mod Under
+pub mod Members
+pub mod Sorted
+pub mod Named
+pub mod IndexEdits
+pub mod TreeWords
+pub mod Totals
+pub mod TreeKeeps
+pub mod TreeMoves

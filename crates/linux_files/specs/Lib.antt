@@ -1,0 +1,9 @@
+pub mod Rings
+pub mod Tables
+pub mod Codes
+pub mod Slotted
+pub mod Counted
+pub mod Seen
+pub mod Steps
+pub mod Rooms
+pub mod Consoles
