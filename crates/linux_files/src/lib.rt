@@ -1,4 +1,8 @@
-//! The files of the Linux side.
+//! What the store of files on the Linux side is made of: pipes as rings, consoles, descriptors and the descriptions that they name, over
+//! the tree of files.
+//!
+//! Promises: each call is the stated change of the rows that file_model has of its part, takes no memory where room was made, and says
+//! when it fails. The store that puts the parts together isn't here yet.
 #![tactic(auto)]
 
 pub mod pipe;
