@@ -61,8 +61,8 @@ unfolding settled
 pipes-settle files test is =
     let left = without_unused_descriptions files in
     ap (λ (m : Map (List ℕ)). record left { nodes = collect (used_node left) files.nodes; pipes = m }) (collect-twice (λ p bytes. test p) (pipe_test left) files.pipes (λ p bytes e. (
-        let a = neither (is_open files (ReadEnd p)) (is_open files (WriteEnd p)) (is p ∙ e) in
-        no-or (is_open left (ReadEnd p)) (is_open left (WriteEnd p)) (still-closed files (ReadEnd p) a.0) (still-closed files (WriteEnd p) a.1))))
+    let a = neither (is_open files (ReadEnd p)) (is_open files (WriteEnd p)) (is p ∙ e) in
+    no-or (is_open left (ReadEnd p)) (is_open left (WriteEnd p)) (still-closed files (ReadEnd p) a.0) (still-closed files (WriteEnd p) a.1))))
 
 -- where all is used
 pub all-used : (files : Files) → ((d : ℕ) (x : Description) → at files.descriptions d ≡ Some x → description_test files d x ≡ true) → ((n : ℕ) (x : Inode) → at files.nodes n ≡ Some x → node_test files n x ≡ true)

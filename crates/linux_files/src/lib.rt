@@ -5,12 +5,12 @@
 //! when it fails. The store that puts the parts together isn't here yet.
 #![tactic(auto)]
 
-pub mod pipe;
-pub mod pipes;
 pub mod console;
 pub mod consoles;
 pub mod descriptors;
 pub mod open_file;
-mod parts;
-mod settle;
 mod opens;
+mod parts;
+pub mod pipe;
+pub mod pipes;
+mod settle;

@@ -140,4 +140,4 @@ module _ (k : Prices) (pair : Pair) (c : Coherent pair) (full : AllFull (one pai
       omega (arith, a, b, d)
 
   pub copy-pays : KernelPays k (one pair) (one (after pair e)) k.step 0 ⊎ (KernelPays k (one pair) (one (after pair e)) 0 0 × SidesPay pair e 1 0)
-  copy-pays = elim piece [ | inl l ↦ inl (in-whole k.step l) | inr z ↦ inr (in-whole 0 z.same, quiet-sides z) ]
+  copy-pays = elim piece [ inl l ↦ inl (in-whole k.step l) | inr z ↦ inr (in-whole 0 z.same, quiet-sides z) ]

@@ -215,10 +215,10 @@ module _ (k : Prices) (pair : Pair) (c : Coherent pair) (full : AllFull (one pai
   copy-less : (q : Pid) (w : ℕ) → may pair (Events.Copy q w) ≡ true → Less (Events.Copy q w)
   copy-less q w m = elim (copy-pays k pair c full q w m) [
     | inl x ↦
-      let e = Events.Copy q w in
-      let y = stepped e m refl 0 (here_copy q.0 (h e) q w (few q.0) (allowed e m).1) in
-      let l = pays.step in
-      both-parts e m 1 0 k.step 0 0 (any_change * count pair.sides) x y (omega (arith, l))
+        let e = Events.Copy q w in
+        let y = stepped e m refl 0 (here_copy q.0 (h e) q w (few q.0) (allowed e m).1) in
+        let l = pays.step in
+        both-parts e m 1 0 k.step 0 0 (any_change * count pair.sides) x y (omega (arith, l))
     | inr x ↦ both-parts (Events.Copy q w) m 1 0 0 0 1 0 x.0 x.1 (omega arith)
   ]
 

@@ -45,7 +45,7 @@ module _ (p : Progress) (files : Files) (process : ℕ) (page : List ℕ) (full 
   -- a piece that is read has as many bytes at most
   streamed-full : (ranges : List Range) (b : Bool)
       → length (cond b (streamed_in p ranges files process page (file_step files process (cond b (Get (description_found p) (offset_argument p) p.moved len) (Put (description_found p) (offset_argument p) p.moved len)) []))
-          (streamed_out p ranges page (file_step files process (cond b (Get (description_found p) (offset_argument p) p.moved len) (Put (description_found p) (offset_argument p) p.moved len)) (take len (drop off page))))).page ≡ 4096
+      (streamed_out p ranges page (file_step files process (cond b (Get (description_found p) (offset_argument p) p.moved len) (Put (description_found p) (offset_argument p) p.moved len)) (take len (drop off page))))).page ≡ 4096
   streamed-full ranges true = let d = description_of files (description_found p) in let bytes = bytes_there files d (offset_argument p) p.moved d.target in let a = length-take len bytes in spliced-full (take len bytes) (omega (arith, a))
   streamed-full ranges false = full
 

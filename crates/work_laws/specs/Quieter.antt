@@ -127,7 +127,7 @@ module _ (a b : Files) (l : AsLong a b) where
         let d : nat_le (total_after a n (write_offset a x own moved) count) most_bytes_of_all_files ≡ true = grind (arith, nat_tests, z) in
         if-ready (nat_lt (write_offset a x own moved) most_file_bytes && nat_le (total_after a n (write_offset a x own moved) count) most_bytes_of_all_files) ∙ (λ i. c i && d i)),
     if-waits (nat_lt (write_offset b y own moved) most_file_bytes && nat_le (total_after b n (write_offset b y own moved) count) most_bytes_of_all_files)
-    ∙ sym (if-waits (nat_lt (write_offset a x own moved) most_file_bytes && nat_le (total_after a n (write_offset a x own moved) count) most_bytes_of_all_files)),
+        ∙ sym (if-waits (nat_lt (write_offset a x own moved) most_file_bytes && nat_le (total_after a n (write_offset a x own moved) count) most_bytes_of_all_files)),
   )
     where
       at-node : (app : Bool) → cond app (length (node_of a n).bytes) x.offset ≤ cond app (length (node_of b n).bytes) y.offset
