@@ -14,9 +14,9 @@ use std::alloc::Global;
 
 const MAGIC: u32 = 0x464c_457f;
 
-const HEADER_SIZE: usize = 64;
+pub(crate) const HEADER_SIZE: usize = 64;
 
-const PROGRAM_HEADER_SIZE: u16 = 56;
+pub(crate) const PROGRAM_HEADER_SIZE: u16 = 56;
 
 const MOST_PROGRAM_HEADERS: u16 = 64;
 
@@ -41,7 +41,7 @@ fn read_u16(bytes: &[u8], at: usize) -> u16
 }
 
 #[tactic(auto, unfolding(crate::specs::Fields::field))]
-fn read_u32(bytes: &[u8], at: usize) -> u32
+pub(crate) fn read_u32(bytes: &[u8], at: usize) -> u32
     requires { at + 4 ≤ length bytes.now }
     ensures { result ≡ field 4 at bytes.now }
 {
@@ -49,7 +49,7 @@ fn read_u32(bytes: &[u8], at: usize) -> u32
 }
 
 #[tactic(auto, unfolding(crate::specs::Fields::field))]
-fn read_u64(bytes: &[u8], at: usize) -> u64
+pub(crate) fn read_u64(bytes: &[u8], at: usize) -> u64
     requires { at + 8 ≤ length bytes.now }
     ensures { result ≡ field 8 at bytes.now }
 {
@@ -115,7 +115,7 @@ pub fn read_header(bytes: &[u8]) -> Result<Header, ElfError>
 }
 
 // The rights of p_flags. What may be written may be read.
-fn rights_of(flags: u32) -> Rights
+pub(crate) fn rights_of(flags: u32) -> Rights
     ensures { result ≡ rights_of flags }
 {
     let exec = flags % 2;
@@ -163,7 +163,7 @@ fn read_segment(bytes: &[u8], at: usize, number: u16) -> Result<Option<Placed>, 
     }))
 }
 
-fn add_found(placed: &mut Items<Placed>, found: Option<Placed>) -> Result<(), NoMemory>
+pub(crate) fn add_found(placed: &mut Items<Placed>, found: Option<Placed>) -> Result<(), NoMemory>
     ensures { OnOk result (placed.new ≡ placed.old ++ option_to_list found) }
 {
     if let Some(segment) = found {
