@@ -8,7 +8,7 @@ use Rattle.file_tree.proofs.Totals.{counted, total-cut}
 use Rattle.file_tree.specs.CountLaws.{count-lowered, cut-absent, one_at}
 use Rattle.file_tree.specs.Counting.{count_in, lowered}
 use Rattle.file_tree.specs.Trees.{settled_at, used_by, used_row}
-use Rattle.linux_files.proofs.Settled.{description_test, node_test, pipe_test, without-description, without-node, without-pipe}
+use Rattle.linux_files.proofs.Settled.{node_test, without-description, without-node, without-pipe}
 use Rattle.linux_files.proofs.SomeRow.{some-total}
 use Rattle.linux_files.specs.Counted.{names_of, opens_it, opens_of}
 use Rattle.linux_files.specs.Seen.{IsCounted, IsKept, PipesOpen, has_end, is_used, may_be_loose, seen_parts}
@@ -18,9 +18,9 @@ use Rattle.linux_files.specs.declared.parts.Loose.{Loose}
 use Rattle.linux_files.specs.declared.parts.Parts.{Parts}
 use Rattle.mck_word.specs.MapLaws.{at-cut}
 use Rattle.mck_word.specs.Maps.{Map, at, cut}
-use Rattle.std.proofs.Common.{ap, arith, inl, inr, refl, subst, sym, ◌∙◌}
+use Rattle.std.proofs.Common.{ap, arith, inl, inr, refl, sym, ◌∙◌}
 use Rattle.std.proofs.lemmas.Bool.Decides.{nat_tests}
-use Rattle.std.proofs.lemmas.Bool.{cases_eq, eq-eqb, ne_eqb, true≢false}
+use Rattle.std.proofs.lemmas.Bool.{cases_eq, eq-eqb, ne_eqb}
 use Rattle.std.specs.Prelude.{Bool, List, None, Option, Some, cond, false, is_some, nat_lt, true, ℕ, ◌+◌, ◌-◌, ◌<◌, ◌==◌, ◌^◌, ◌||◌, ◌≡◌, ◌≢◌, ◌⊎◌}
 
 -- ---- the words on files by counts

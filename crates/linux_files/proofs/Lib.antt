@@ -8,3 +8,9 @@ pub mod NextKeys
 pub mod Settles
 pub mod Lowest
 pub mod Opening
+pub mod Keeps
+pub mod Described
+pub mod Closing
+pub mod PieceRoom
+pub mod JobPaths
+pub mod Held

@@ -1,9 +1,9 @@
 -- The least number that is no key of a map is no key.
-use Rattle.key_rows.specs.Lowest.{lowest-le, member-keys}
+use Rattle.key_rows.specs.Lowest.{member-keys}
 use Rattle.mck_word.specs.Lists.{count_from, lowest_not_in, member, without}
 use Rattle.mck_word.specs.Maps.{Map, at, keys}
-use Rattle.file_tree.proofs.Members.{In, find-in}
-use Rattle.std.proofs.Common.{◌≡◌, ◌≢◌, ◌+◌, ◌<◌, ◌≤◌, ℕ, zero, suc, Bool, true, false, cond, eqb, not, List, [], ◌∷◌, length, Option, Some, None, refl, sym, ap, subst, ◌∙◌, inl, inr, arith}
+use Rattle.file_tree.proofs.Members.{find-in}
+use Rattle.std.proofs.Common.{◌≡◌, ◌≢◌, ◌+◌, ◌<◌, ◌≤◌, ℕ, zero, suc, Bool, true, false, cond, eqb, not, List, [], ◌∷◌, length, Option, Some, None, refl, sym, ap, ◌∙◌, inl, inr, arith}
 use Rattle.std.proofs.lemmas.Bool.{cases_eq, eq-eqb, ne_eqb, true≢false}
 use Rattle.std.specs.Prelude.{find, is_some, unwrap_or, ◌||◌}
 

@@ -3,12 +3,12 @@ use Rattle.file_tree.proofs.Members.{In, at-in, in-above, in-at, no-value, value
 use Rattle.key_rows.proofs.Placed.{below-of, tail-of}
 use Rattle.key_rows.specs.Table.{key_from}
 use Rattle.mck_word.specs.Maps.{Map, at, entries}
-use Rattle.std.proofs.Common.{ap, arith, inl, inr, refl, subst, sym, ◌∙◌}
+use Rattle.std.proofs.Common.{ap, arith, inl, inr, refl, sym}
 use Rattle.std.proofs.lemmas.Bool.Decides.{nat_tests}
 use Rattle.std.specs.FinMap as finmap
 use Rattle.std.specs.FinMap.{is_sorted}
 use Rattle.std.specs.Ordering.{nat_cmp}
-use Rattle.std.specs.Prelude.{Bool, List, None, Option, Some, T, [], cond, false, find, map, nat_le, true, ℕ, ◌<◌, ◌∷◌, ◌≡◌, ◌≤◌}
+use Rattle.std.specs.Prelude.{Bool, List, None, Some, T, [], cond, false, find, map, nat_le, true, ℕ, ◌<◌, ◌∷◌, ◌≡◌, ◌≤◌}
 
 past : (from k : ℕ) → nat_le from k ≡ false → k < from
 past from k e = grind (arith, nat_tests, e)

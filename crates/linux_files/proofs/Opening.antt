@@ -3,32 +3,30 @@ use Rattle.file_model.specs.Files.{is_same_target}
 use Rattle.file_model.specs.declared.descriptions.Description.{Description}
 use Rattle.file_model.specs.declared.descriptions.Target.TheVariants.{OfNode, ReadEnd, WriteEnd}
 use Rattle.file_model.specs.declared.descriptions.Target.{Target}
-use Rattle.file_tree.proofs.IndexEdits.{at-gone}
-use Rattle.file_tree.proofs.Members.{no-value, value-same}
 use Rattle.file_tree.proofs.Totals.{counted, total-none, total-put}
 use Rattle.file_tree.specs.CountLaws.{count-raised, one_at}
 use Rattle.file_tree.specs.Counting.{count_in, raised}
 use Rattle.linux_files.proofs.Drops.{turned}
 use Rattle.linux_files.specs.Counted.{names_of, opens_it, opens_of}
-use Rattle.linux_files.specs.Seen.{DescriptionsUsed, IsCounted, IsKept, IsStore, PipesOpen, has_end, is_used, may_be_loose}
+use Rattle.linux_files.specs.Seen.{DescriptionsUsed, IsStore, PipesOpen, has_end, is_used, may_be_loose}
 use Rattle.linux_files.specs.Slotted.{names_in_row, names_it}
 use Rattle.linux_files.specs.declared.parts.Loose.{Loose}
 use Rattle.linux_files.specs.declared.parts.Parts.{Parts}
 use Rattle.mck_word.specs.MapLaws.{at-put}
 use Rattle.mck_word.specs.Maps.{Map, at, count, no_rows, put}
-use Rattle.std.proofs.Common.{ap, arith, inl, inr, refl, subst, sym, ◌∙◌}
+use Rattle.std.proofs.Common.{ap, arith, inl, inr, refl, sym, ◌∙◌}
 use Rattle.std.proofs.lemmas.Bool.Decides.{nat_tests}
 use Rattle.std.proofs.lemmas.Bool.{cases_eq, eq-eqb, ne_eqb, true≢false}
 use Rattle.std.specs.Cmp.{nat_cmp_total}
 use Rattle.std.specs.FinMap as finmap
-use Rattle.std.specs.Prelude.{Bool, List, None, Option, Some, cond, false, is_some, min, nat_lt, true, unwrap_or, ℕ, ◌+◌, ◌<◌, ◌==◌, ◌^◌, ◌||◌, ◌≡◌, ◌≢◌, ◌≤◌, ◌⊎◌}
+use Rattle.std.specs.Prelude.{Bool, None, Option, Some, cond, false, is_some, min, nat_lt, true, unwrap_or, ℕ, ◌+◌, ◌<◌, ◌==◌, ◌^◌, ◌||◌, ◌≡◌, ◌≢◌, ◌≤◌, ◌⊎◌}
 
 -- ---- sums after a row is put
 
 pub opens-put : (m : Map Description) (d : ℕ) (x : Description) (target : Target) → at m d ≡ None → opens_of (put m d x) target ≡ opens_of m target + opens_it target x
 opens-put m d x target free = let c = total-put (opens_it target) m d x in let none = ap (counted (opens_it target)) free in omega arith
 
-counted-row : (d : ℕ) (o : Option (Map ℕ)) → counted (names_in_row d) o ≡ names_in_row d (unwrap_or o no_rows)
+pub counted-row : (d : ℕ) (o : Option (Map ℕ)) → counted (names_in_row d) o ≡ names_in_row d (unwrap_or o no_rows)
 counted-row d None = sym (total-none (names_it d))
 counted-row d (Some row) = refl
 

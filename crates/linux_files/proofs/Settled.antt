@@ -6,9 +6,9 @@ use Rattle.file_model.specs.declared.descriptions.Target.{Target}
 use Rattle.key_rows.specs.Keeping.{kept}
 use Rattle.linux_files.proofs.SomeRow.{collect-cut, collect-twice, collect-whole, collected-there, fewer-pass}
 use Rattle.mck_word.specs.Maps.{Map, at, collect, cut}
-use Rattle.std.proofs.Common.{ap, refl, sym, ◌∙◌}
+use Rattle.std.proofs.Common.{ap, refl, ◌∙◌}
 use Rattle.std.proofs.lemmas.Bool.{true≢false}
-use Rattle.std.specs.Prelude.{Bool, List, None, Option, Some, cond, false, is_some, nat_lt, true, ℕ, ◌==◌, ◌||◌, ◌≡◌}
+use Rattle.std.specs.Prelude.{Bool, List, Some, false, is_some, nat_lt, true, ℕ, ◌==◌, ◌||◌, ◌≡◌}
 
 abbrev pub description_test : Files → ℕ → Description → Bool
 description_test files d x = nat_lt 0 x.calls || is_named files d

@@ -1,29 +1,28 @@
 -- The steps of settling, one behind another, and their end.
-use Rattle.file_model.specs.Files.{Files, Inode, is_open, root, settled}
+use Rattle.file_model.specs.Files.{is_open, root, settled}
 use Rattle.file_model.specs.declared.descriptions.Description.{Description}
 use Rattle.file_model.specs.declared.descriptions.Target.TheVariants.{OfNode, ReadEnd, WriteEnd}
 use Rattle.file_tree.proofs.IndexEdits.{at-gone, at-left}
 use Rattle.file_tree.proofs.Members.{no-value}
 use Rattle.file_tree.specs.Counting.{count_in}
-use Rattle.file_tree.specs.Trees.{NodesUsed, used_by}
+use Rattle.file_tree.specs.Trees.{NodesUsed}
 use Rattle.key_rows.specs.Keeping.{kept}
 use Rattle.linux_files.proofs.Drops.{named-count, open-count, pipe-settles}
-use Rattle.linux_files.proofs.NextKeys.{next-from, next-least, next-none, next-there}
+use Rattle.linux_files.proofs.NextKeys.{next-least, next-none, next-there}
 use Rattle.linux_files.proofs.Settled.{all-used, pipes-settle}
-use Rattle.linux_files.proofs.SomeRow.{collected-there}
 use Rattle.linux_files.specs.Rings.{is_counted}
-use Rattle.linux_files.specs.Seen.{DescriptionsUsed, IsCounted, IsKept, PipesOpen, has_end, is_used, may_be_loose, seen_parts}
+use Rattle.linux_files.specs.Seen.{DescriptionsUsed, IsCounted, IsKept, has_end, is_used, may_be_loose, seen_parts}
 use Rattle.linux_files.specs.Steps.{AreUsed, Follows}
-use Rattle.linux_files.specs.declared.parts.Loose.TheVariants.{AllOpen, Any, One}
+use Rattle.linux_files.specs.declared.parts.Loose.TheVariants.{AllOpen, One}
 use Rattle.linux_files.specs.declared.parts.Loose.{Loose}
 use Rattle.linux_files.specs.declared.parts.Parts.{Parts}
 use Rattle.key_rows.specs.Table.{key_from}
 use Rattle.mck_word.specs.MapLaws.{at-collect}
-use Rattle.mck_word.specs.Maps.{Map, and_then, at, collect, cut}
+use Rattle.mck_word.specs.Maps.{Map, and_then, at, cut}
 use Rattle.std.proofs.Common.{ap, arith, inl, inr, refl, subst, sym, ◌∙◌}
 use Rattle.std.proofs.lemmas.Bool.Decides.{nat_tests}
-use Rattle.std.proofs.lemmas.Bool.{cases_eq, cases_lt, eq-eqb, ne_eqb, true≢false}
-use Rattle.std.specs.Prelude.{Bool, IfSome, List, None, Option, Some, cond, false, is_some, nat_lt, true, ℕ, ◌+◌, ◌<◌, ◌==◌, ◌^◌, ◌||◌, ◌≡◌, ◌≢◌, ◌≤◌, ◌⊎◌}
+use Rattle.std.proofs.lemmas.Bool.{cases_eq, cases_lt, ne_eqb}
+use Rattle.std.specs.Prelude.{Bool, IfSome, List, None, Option, Some, cond, false, is_some, nat_lt, true, ℕ, ◌+◌, ◌<◌, ◌==◌, ◌^◌, ◌||◌, ◌≡◌, ◌≢◌, ◌⊎◌}
 
 pub follows-on : (a b c : Parts) → Follows a b → Follows b c → Follows a c
 follows-on a b c h k = record {

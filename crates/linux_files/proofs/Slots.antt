@@ -1,8 +1,8 @@
 -- The rows of a map that is seen through slots, in the order of their places.
 use Rattle.key_rows.specs.Lowest.{lowest-free, lowest-le}
-use Rattle.linux_files.specs.Slotted.{names_in_row, names_it, slot_names, slots_name}
+use Rattle.linux_files.specs.Slotted.{names_in_row, names_it, slots_name}
 use Rattle.mck_word.specs.Lists.{lowest_not_in}
-use Rattle.mck_word.specs.MapLaws.{at-cut, at-none, at-set_or_cut, same_rows}
+use Rattle.mck_word.specs.MapLaws.{at-none, at-set_or_cut, same_rows}
 use Rattle.mck_word.specs.Maps.{Map, at, count, cut, entries, keys, no_rows, put}
 use Rattle.mck_word.specs.Slots.{at-slots, by_place, slots-set, slots_from}
 use Rattle.file_tree.specs.CountLaws.{cut-absent}
@@ -15,7 +15,7 @@ use Rattle.std.specs.FinMap as finmap
 use Rattle.std.specs.FinMap.Entries.{below_all}
 use Rattle.std.specs.FinMap.{find, from_sorted, is_sorted, nat_cmp-IsAntisymmetric}
 use Rattle.std.specs.Ordering.{nat_cmp}
-use Rattle.std.specs.Prelude.{zero, suc, Bool, List, None, Option, Some, T, [], cond, count_by, false, fold, is_some, replicate, slice_index_or, slice_set, sum_by, true, ℕ, ◌&&◌, ◌+◌, ◌==◌, ◌∷◌}
+use Rattle.std.specs.Prelude.{zero, suc, List, None, Option, Some, T, [], cond, count_by, false, fold, is_some, replicate, slice_index_or, slice_set, sum_by, true, ℕ, ◌&&◌, ◌+◌, ◌==◌, ◌∷◌}
 
 module _ {V : Type 0} where
   -- the rows of the slots from place k on

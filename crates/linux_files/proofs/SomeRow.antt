@@ -1,14 +1,13 @@
 -- Whether a row passes, by a count of them, and among fewer rows.
-use Rattle.file_tree.proofs.Members.{In, at-in, in-at, no-value, value-same}
-use Rattle.file_tree.proofs.Totals.{counted}
+use Rattle.file_tree.proofs.Members.{In, at-in, in-at, no-value}
 use Rattle.mck_word.specs.MapLaws.{at-collect, at-cut, same_rows}
 use Rattle.mck_word.specs.Maps.{Map, and_then, at, collect, cut, entries, some_row, total}
-use Rattle.std.proofs.Common.{ap, arith, inl, inr, refl, subst, sym, ◌∙◌}
+use Rattle.std.proofs.Common.{ap, arith, inl, inr, refl, sym, ◌∙◌}
 use Rattle.std.proofs.lemmas.Bool.Decides.{nat_tests}
 use Rattle.std.proofs.lemmas.Bool.{true≢false}
 use Rattle.std.proofs.lemmas.List.Sums.{sum_by-cons}
 use Rattle.std.specs.List.{list_any}
-use Rattle.std.specs.Prelude.{Bool, List, None, Option, Some, [], cond, false, nat_lt, sum_by, true, ℕ, ◌+◌, ◌<◌, ◌==◌, ◌||◌, ◌∷◌, ◌≡◌, ◌≤◌, ◌⊎◌}
+use Rattle.std.specs.Prelude.{Bool, List, None, Option, Some, [], cond, false, nat_lt, sum_by, true, ℕ, ◌+◌, ◌==◌, ◌||◌, ◌∷◌, ◌≡◌}
 
 any-in : {A : Type 0} (p : A → Bool) (xs : List A) → list_any p xs ≡ true → (x : A) × In x xs × (p x ≡ true)
 any-in p [] h = absurd (true≢false (sym h))

@@ -7,3 +7,7 @@ pub mod Seen
 pub mod Steps
 pub mod Rooms
 pub mod Consoles
+pub mod Same
+pub mod Opened
+pub mod Jobs
+pub mod Ends

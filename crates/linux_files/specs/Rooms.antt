@@ -27,3 +27,10 @@ can_write_parts p (OfNode n) end = CanWrite p.tree.map p.tree.rooms n end
 can_write_parts p (ReadEnd q) end = Unit {0}
 can_write_parts p (WriteEnd q) end = IfSome (at p.pipes.rooms q) (λ room. end ≤ room)
 can_write_parts p (OfConsole guest) end = IfSome (at p.consoles.rooms guest) (λ room. end ≤ room)
+
+-- there is room to count so many more descriptions and names
+pub record HasCounts (n : ℕ) (p : Parts) : Type 0 where
+  pub named : n ≤ room_in p.named
+  pub holds : n ≤ min p.tree.spare_holds p.tree.left_holds
+  pub readers : n ≤ room_in p.readers
+  pub writers : n ≤ room_in p.writers

@@ -1,6 +1,6 @@
 -- How often slots name a description.
 use Rattle.mck_word.specs.Maps.{Map, total}
-use Rattle.std.specs.Prelude.{Bool, List, None, Option, Some, [], cond, ℕ, ◌+◌, ◌==◌, ◌∷◌}
+use Rattle.std.specs.Prelude.{List, None, Option, Some, [], cond, ℕ, ◌+◌, ◌==◌, ◌∷◌}
 
 abbrev pub names_it : ℕ → ℕ → ℕ
 names_it d n = cond (n == d) 1 0

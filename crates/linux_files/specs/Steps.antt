@@ -2,7 +2,6 @@
 use Rattle.file_model.specs.Files.{settled}
 use Rattle.file_model.specs.declared.descriptions.Description.{Description}
 use Rattle.linux_files.specs.Seen.{IsKept, is_used, seen_parts}
-use Rattle.linux_files.specs.declared.parts.Loose.{Loose}
 use Rattle.linux_files.specs.declared.parts.Parts.{Parts}
 use Rattle.mck_word.specs.Maps.{at}
 use Rattle.std.specs.List.{list_any}

@@ -1,6 +1,5 @@
-use Rattle.std.proofs.Common.{◌∙◌, ap, arith, refl, sym}
+use Rattle.std.proofs.Common.{refl}
 use Rattle.linux_files.proofs.Opening.{target-raised}
-use Rattle.file_tree.specs.Counting.{count_in}
 use Rattle.file_model.specs.declared.descriptions.Target.TheVariants.{OfNode, ReadEnd, WriteEnd}
 use Rattle.linux_files.proofs.parts.Parts.count_open.Goals as goal
 

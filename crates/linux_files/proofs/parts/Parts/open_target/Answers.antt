@@ -1,4 +1,4 @@
-use Rattle.std.proofs.Common.{◌∙◌, ap, arith, refl, sym}
+use Rattle.std.proofs.Common.{◌∙◌, ap, arith, sym}
 use Rattle.linux_files.proofs.Lowest.{lowest-absent}
 use Rattle.linux_files.proofs.Opening.{count-put, min-step, opened-store, row-here}
 use Rattle.linux_files.specs.Counted.{opens_it}
@@ -6,7 +6,7 @@ use Rattle.linux_files.specs.declared.parts.Parts.{Parts}
 use Rattle.file_model.specs.declared.descriptions.Target.TheVariants.{OfNode, ReadEnd, WriteEnd}
 use Rattle.file_tree.specs.Counting.{count_in, raised}
 use Rattle.mck_word.specs.Maps.{at, count, no_rows, put}
-use Rattle.std.specs.Prelude.{ℕ, ◌+◌, ◌-◌, ◌^◌, ◌≡◌, ◌≤◌}
+use Rattle.std.specs.Prelude.{◌+◌, ◌-◌, ◌^◌, ◌≤◌}
 use Rattle.linux_files.proofs.parts.Parts.open_target.Goals as goal
 
 pub returns-clause-used : goal.returns-clause-used

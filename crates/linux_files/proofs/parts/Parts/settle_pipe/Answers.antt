@@ -1,4 +1,4 @@
-use Rattle.std.proofs.Common.{◌∙◌, None, ap, cond, sym}
+use Rattle.std.proofs.Common.{◌∙◌, ap, cond, sym}
 use Rattle.file_tree.specs.CountLaws.{cut-absent}
 use Rattle.linux_files.proofs.Slots.{none-there_is}
 use Rattle.mck_word.specs.Maps.{at, cut}

@@ -1,0 +1,10 @@
+use Rattle.file_tree.specs.Counting.{count_in}
+use Rattle.linux_files.specs.Slotted.{slots_name}
+use Rattle.std.proofs.Common.{take, ℕ, ◌+◌, ◌≡◌, ◌≤◌}
+use Rattle.linux_files.proofs.names.raise_all.Given as goal
+
+abbrev pub invariant-loop-slot : goal.invariant-loop-slot
+invariant-loop-slot l = record {
+  counts : (d : ℕ) → count_in l.named.counts d ≡ count_in l.initial.named.counts d + slots_name d (take l.slot-index l.slots);
+  left : l.initial.named.left ≤ l.named.left + l.slot-index;
+}

@@ -1,0 +1,6 @@
+use Rattle.std.proofs.Common.{refl}
+use Rattle.linux_files.proofs.Keeps.{pipe-changed}
+use Rattle.linux_files.proofs.parts.Parts.take_pipe.Goals as goal
+
+pub returns-clause-store : goal.returns-clause-store
+returns-clause-store c = pipe-changed c.args.self.now _ refl refl refl refl refl refl refl c.args.pipe _ c.take.ensures.map refl c.requires.store
