@@ -7,11 +7,10 @@ use Rattle.file_model.specs.Files.{Files, description_of, hold}
 use Rattle.file_model.specs.Operations.{FileResult, done, fails}
 use Rattle.file_model.specs.declared.descriptions.Target.{Target}
 use Rattle.file_model.specs.declared.operations.FileOp.{FileOp}
-use Rattle.file_model.specs.declared.operations.FileOp.TheVariants.{Openat, Mkdirat, Unlinkat, Close, Lseek, Ioctl, Pipe2, Fstat, Getdents, Read as ReadAct, Write as WriteAct}
 use Rattle.hybrid_laws.specs.FileOps.{cond-case, with-description}
 use Rattle.kernel_model.specs.Plans.{act_of, argument, close_call, flags_at, fstat_call, getdents64_call, has_vectors, int_at, ioctl_call, is_read, lseek_call, mkdirat_call, openat_call, own_offset, pipe2_call, readv_call, unlinkat_call, vector_count, writev_call}
 use Rattle.mck_word.specs.Words.{signed}
-use Rattle.std.proofs.Common.{ap, arith, refl, subst, sym, ◌∙◌}
+use Rattle.std.proofs.Common.{ap, arith, refl, subst}
 use Rattle.std.proofs.lemmas.Bool.Decides.{nat_tests}
 use Rattle.std.specs.Prelude.{Bool, List, None, Option, Some, cond, false, negsuc, not, pos, true, ℕ, ℤ, ◌==◌, ◌≡◌, ◌||◌}
 use Rattle.work_laws.specs.ActsAdd.{ActAdds, close-adds, fstat-adds, getdents-adds, ioctl-adds, lseek-adds, mkdirat-adds, openat-adds, pipe2-adds, read-adds, unlinkat-adds, write-adds}

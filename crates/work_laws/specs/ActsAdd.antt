@@ -17,7 +17,7 @@ use Rattle.mck_word.specs.Maps.{at, count, cut, put, some_row, total}
 use Rattle.std.proofs.Common.{ap, arith, length-append, refl, sym, ◌∙◌}
 use Rattle.std.proofs.lemmas.Bool.Decides.{nat_tests}
 use Rattle.std.specs.Prelude.{Bool, List, None, Option, Some, [], cond, drop, false, length, min, nat_le, nat_lt, negsuc, not, option_map, pos, true, ℕ, ℤ, ◌&&◌, ◌+ℤ◌, ◌+◌, ◌-◌, ◌==◌, ◌^◌, ◌||◌, ◌∷◌, ◌≡◌, ◌≤◌}
-use Rattle.work_laws.specs.FilesAdd.{FilesLess, hold-less, left-less, nodes-same, nodes-under, offset-less, one-node, opened-node, opened-was, settled-less, was-same}
+use Rattle.work_laws.specs.FilesAdd.{hold-less, left-less, nodes-same, nodes-under, offset-less, one-node, opened-node, opened-was, settled-less, was-same}
 use Rattle.work_laws.specs.KernelLeft.{console_left, files_left, pipe_left}
 
 pub record ActAdds (files : Files) (r : FileResult) : Type 0 where
@@ -32,9 +32,6 @@ fit-most most (r ∷ rs) = go (nat_le (length r) most) refl (fit-most (most - le
     go : (b : Bool) → nat_le (length r) most ≡ b → length (joined (records_that_fit (most - length r) rs)) ≤ most - length r → length (joined (cond b (r ∷ records_that_fit (most - length r) rs) [])) ≤ most
     go true e i = let l : length r ≤ most = grind (arith, nat_tests, e) in let a = length-append r (joined (records_that_fit (most - length r) rs)) in omega (arith, i, l, a)
     go false e i = omega arith
-
-stat-length : (node mode size : ℕ) → length (stat_record node mode size) ≡ 128
-stat-length node mode size = refl
 
 module _ (files : Files) where
   abbrev Adds : FileResult → Type 0

@@ -13,18 +13,14 @@ use Rattle.kernel_model.specs.Steps.{after as step_after, after_all, after_here,
 use Rattle.kernel_model.specs.declared.steps.Step.{Step}
 use Rattle.mck_word.specs.declared.Tid.{Tid}
 use Rattle.std.proofs.Common.{ap, arith, refl, subst, sym, ◌∙◌}
-use Rattle.std.specs.Prelude.{List, [], replicate, suc, true, zero, ℕ, ◌+◌, ◌∷◌, ◌≡◌, ◌≤◌}
+use Rattle.std.specs.Prelude.{[], replicate, suc, true, zero, ℕ, ◌+◌, ◌∷◌, ◌≡◌, ◌≤◌}
 use Rattle.work_laws.specs.HereLess.{KernelPays, whole-pays}
 use Rattle.work_laws.specs.KernelLeft.{Prices, kernel_left}
+use Rattle.work_laws.specs.Left.{left_in}
 use Rattle.work_laws.specs.Shown.{sound-shown}
 use Rattle.work_laws.specs.StepPays.{born-new, cost_of, gain_of, is_plain, step-pays}
 use Rattle.work_laws.specs.StepsPay.{instr-pays}
-use Rattle.work_laws.specs.Weights.{sides_left}
 use Rattle.work_laws.specs.Wholes.{SidesPay}
-
--- what is left to do in both: the one-kernel state that is shown, and the sides
-abbrev pub left_in : Prices → Pair → ℕ
-left_in k pair = kernel_left k (one pair) + sides_left pair
 
 abbrev pub EventPays : Prices → Pair → Event → ℕ → ℕ → Type 0
 EventPays k pair e gain cost = left_in k (after pair e) + gain ≤ left_in k pair + cost

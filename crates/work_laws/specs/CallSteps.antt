@@ -2,7 +2,7 @@
 use Rattle.file_model.specs.Files.{Files}
 use Rattle.hybrid_laws.specs.Sums.{counted_in, total-put}
 use Rattle.hybrid_laws.specs.Tests.{both, some-is}
-use Rattle.hybrid_model.specs.Globals.{IsUnderWay, StatusHolds}
+use Rattle.hybrid_model.specs.Globals.{StatusHolds}
 use Rattle.isa_model.specs.Memory.{Memory}
 use Rattle.kernel_model.specs.Nodes.{set_files}
 use Rattle.kernel_model.specs.OneKernel.{Active, Blocked, Call, CallStatus, OneHere, Over}
@@ -11,10 +11,10 @@ use Rattle.kernel_model.specs.Steps.{active, after_call_step, blocked, bytes_at,
 use Rattle.mck_word.specs.Maps.{at, put}
 use Rattle.std.proofs.Common.{ap, arith, inl, inr, refl, sym, ◌∙◌}
 use Rattle.std.proofs.Math.Nat.{mul-le-mul_left}
-use Rattle.std.specs.Prelude.{Bool, None, Option, Some, false, length, true, unwrap_or, ℕ, ℤ, ◌*◌, ◌+◌, ◌≡◌, ◌≤◌, ◌⊎◌}
+use Rattle.std.specs.Prelude.{Bool, Option, Some, length, true, unwrap_or, ℕ, ℤ, ◌*◌, ◌+◌, ◌≡◌, ◌≤◌, ◌⊎◌}
 use Rattle.work_laws.specs.FileStepLess.{file-step-less}
 use Rattle.work_laws.specs.HereLess.{OnePays}
-use Rattle.work_laws.specs.KernelLeft.{Prices, files_left, of_mark, own_calls_left, own_marks_left, progress_left, status_left}
+use Rattle.work_laws.specs.KernelLeft.{Prices, files_left, of_mark, own_calls_left, progress_left, status_left}
 use Rattle.work_laws.specs.MovesLess.{move-less}
 use Rattle.work_laws.specs.SettleLess.{after_left, given-less}
 use Rattle.work_laws.specs.StreamsLess.{PieceLess, QuietStep}

@@ -4,19 +4,18 @@ use Rattle.hybrid_laws.specs.Sums.{total-put}
 use Rattle.isa_model.specs.Memory.{may_access, read_bytes}
 use Rattle.isa_model.specs.Registers.{reg}
 use Rattle.kernel_model.specs.Calls.{one_of_calls}
-use Rattle.kernel_model.specs.CloneCalls.{CallDone, are_clone_flags, clone, cloned_thread, clones, ended_child, noted_waited, parent_number, status_of_life, tells_end, wait4, wait_over, waits_for, with_thread}
+use Rattle.kernel_model.specs.CloneCalls.{clone, cloned_thread, clones, ended_child, noted_waited, parent_number, status_of_life, tells_end, wait4, wait_over, waits_for, with_thread}
 use Rattle.kernel_model.specs.LocalCalls.{answers, clear_word, code_of, dies_without_threads, exit_code, exits, exits_group, futex, futex_wait, futex_wake, note_first_code, refuses, sets_clear_address, sets_robust_list, waiters, wake, wake_count}
-use Rattle.kernel_model.specs.Nodes.{Node, Process, Thread, action_of, answered, change_process, change_thread, dies, most_threads, process_of, set_does, thread_of, threads_of, without_thread}
+use Rattle.kernel_model.specs.Nodes.{Node, Process, Thread, action_of, answered, change_process, change_thread, dies, process_of, set_does, thread_of, threads_of, without_thread}
 use Rattle.kernel_model.specs.SignalCalls.{action_bytes, action_in, checked_signal, kill, kills, kills_thread, nat_of, new_mask, positive, send, sets_action, sets_mask, sigaction, sigpending, sigprocmask, tgkill}
 use Rattle.kernel_model.specs.Signals.{View, drop_ignored, frame_size, generate_for_process, generate_for_thread, mask_in, on_node, restored, return_from_handler, store, with_action}
 use Rattle.kernel_model.specs.declared.Action.{Action}
 use Rattle.kernel_model.specs.declared.Does.TheVariants.{InWait, Ready}
 use Rattle.mck_word.specs.Words.{has_bit, int_argument, little_endian, number_of, refused}
 use Rattle.mck_word.specs.declared.Access.TheVariants.{Write}
-use Rattle.mck_word.specs.declared.End.{End}
 use Rattle.mck_word.specs.declared.End.TheVariants.{Exit}
 use Rattle.std.proofs.Common.{arith, refl, ◌∙◌}
-use Rattle.std.specs.Prelude.{Bool, None, Option, Some, cond, false, length, min, nat_le, not, pos, slice_set, true, ℕ, ℤ, ◌%◌, ◌+◌, ◌-◌, ◌==◌, ◌^◌, ◌≡◌, ◌≤◌}
+use Rattle.std.specs.Prelude.{Bool, None, Option, Some, cond, false, length, min, pos, slice_set, true, ℕ, ℤ, ◌%◌, ◌-◌, ◌==◌, ◌^◌, ◌≡◌}
 use Rattle.work_laws.specs.KernelLeft.{Prices, of_thread}
 use Rattle.work_laws.specs.NodeLeft.{Adds, adds-more, adds-none, adds-then, answered-adds, dies-adds, does-adds, falls-adds, for_process-adds, for_thread-adds, gone-adds, ignored-adds, process-adds, raised-adds, thread-adds, wake-adds}
 use Rattle.work_laws.specs.Signals.{no-signals}

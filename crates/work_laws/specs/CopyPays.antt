@@ -7,14 +7,14 @@ use Rattle.hybrid_laws.specs.WholePair.{has-side}
 use Rattle.hybrid_laws.specs.WholeSteps.{one-here}
 use Rattle.file_model.specs.Files.{Files}
 use Rattle.hybrid_laws.specs.Copy.{MayCopy}
-use Rattle.hybrid_model.specs.Coherence.{Covers, PinServes}
+use Rattle.hybrid_model.specs.Coherence.{PinServes}
 use Rattle.hybrid_model.specs.Events.{after, after_here, may, may_here}
 use Rattle.hybrid_model.specs.Globals.{Coherent, ring_number}
 use Rattle.hybrid_model.specs.Lwk.{thread_served}
 use Rattle.hybrid_model.specs.Pairs.{Here, Pair, here, side_of}
-use Rattle.hybrid_model.specs.Shown.{one, shown_here}
-use Rattle.hybrid_model.specs.Sides.{Row, Service, service_of}
-use Rattle.hybrid_model.specs.Spaces.{frame_bytes, shown_memory, shown_row}
+use Rattle.hybrid_model.specs.Shown.{one}
+use Rattle.hybrid_model.specs.Sides.{Service, service_of}
+use Rattle.hybrid_model.specs.Spaces.{frame_bytes, shown_row}
 use Rattle.hybrid_model.specs.declared.events.Event.{Event}
 use Rattle.ikc_ring.specs.declared.Call.{Call}
 use Rattle.isa_model.specs.Memory.{Memory, Page, allows_in}
@@ -29,9 +29,9 @@ use Rattle.mck_word.specs.declared.Access.{Access}
 use Rattle.mck_word.specs.declared.Pid.{Pid}
 use Rattle.request_book.specs.declared.ReqState.TheVariants.{Held}
 use Rattle.std.proofs.Common.{ap, arith, inl, inr, refl, subst, sym, ◌∙◌}
-use Rattle.std.specs.Prelude.{Bool, List, None, Option, Some, [], length, true, ℕ, ◌&&◌, ◌+◌, ◌≡◌, ◌≤◌, ◌⊎◌}
+use Rattle.std.specs.Prelude.{Bool, List, None, Option, Some, [], length, true, ℕ, ◌&&◌, ◌≡◌, ◌⊎◌}
 use Rattle.work_laws.specs.CallSteps.{QuietPiece, piece-pays, when-active}
-use Rattle.work_laws.specs.CopyQuiet.{moved, m, n, quiet_copy, request, serving, sides-less}
+use Rattle.work_laws.specs.CopyQuiet.{moved, m, quiet_copy, request, serving, sides-less}
 use Rattle.work_laws.specs.FullPages.{Full, IsFull}
 use Rattle.work_laws.specs.FullSteps.{AllFull, here-full}
 use Rattle.work_laws.specs.HereLess.{KernelPays, OnePays, whole-pays}
@@ -39,7 +39,7 @@ use Rattle.work_laws.specs.KernelLeft.{Prices}
 use Rattle.work_laws.specs.Shown.{progress-is, thread-own}
 use Rattle.work_laws.specs.StepPays.{born-new}
 use Rattle.work_laws.specs.StreamsLess.{QuietStep}
-use Rattle.work_laws.specs.Weights.{of_side, sides_left}
+use Rattle.work_laws.specs.Weights.{of_side}
 use Rattle.work_laws.specs.Wholes.{SidesPay, sides-are}
 
 -- a page that an access is allowed in is there, whole

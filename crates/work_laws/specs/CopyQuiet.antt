@@ -7,12 +7,12 @@ use Rattle.hybrid_laws.specs.HeldStep.{held-row}
 use Rattle.hybrid_laws.specs.Sums.{counted_at, counted_in, total-cut, total-cut-by, total-put}
 use Rattle.hybrid_model.specs.Coherence.{OfProcess, PinServes, holder}
 use Rattle.hybrid_model.specs.Events.{after_here, copy, may_here}
-use Rattle.hybrid_model.specs.Linux.{copied, is_uncopied, moved_by, state_if, stepped_book, stepped_service}
+use Rattle.hybrid_model.specs.Linux.{copied, is_uncopied, moved_by, state_if, stepped_service}
 use Rattle.hybrid_model.specs.Pairs.{Here}
-use Rattle.hybrid_model.specs.Sides.{LinuxSide, Service, Side, looked_up, pin_of, served, serves, service_of, state_in, with_state}
+use Rattle.hybrid_model.specs.Sides.{LinuxSide, Service, Side, looked_up, serves, service_of, state_in, with_state}
 use Rattle.hybrid_model.specs.Spaces.{frame_bytes}
 use Rattle.ikc_ring.specs.declared.Call.{Call}
-use Rattle.kernel_model.specs.Progress.{After, Progress, is_not_ready, is_ready, move_piece, needed_access, next_kind, next_piece}
+use Rattle.kernel_model.specs.Progress.{After, is_not_ready, is_ready, move_piece, needed_access, next_kind, next_piece}
 use Rattle.mck_word.specs.MapLaws.{at-cut, at-put}
 use Rattle.mck_word.specs.Maps.{Map, at, cut, entries, put, total}
 use Rattle.mck_word.specs.declared.Pid.{Pid}
@@ -25,7 +25,7 @@ use Rattle.work_laws.specs.Quieter.{Quieter, next-ready, next-waits}
 use Rattle.work_laws.specs.Rows.{rows-le}
 use Rattle.work_laws.specs.Services.{service-other, service-own, stated-row, worker-is}
 use Rattle.work_laws.specs.StreamsLess.{QuietStep}
-use Rattle.work_laws.specs.Weights.{of_pin, of_reply, of_request, of_side, rank_held, rank_of, wakes}
+use Rattle.work_laws.specs.Weights.{of_pin, of_reply, of_request, of_side, rank_held, rank_of}
 
 -- ---- files in which nothing is readier
 rank-less : (r r' without_row uncopied : Bool) → (r' ≡ true → r ≡ true) → rank_held r' without_row uncopied ≤ rank_held r without_row uncopied

@@ -1,7 +1,7 @@
 -- A piece of a writing stream that is cut: it fills a pipe or a console, or grows a file to its limit, which may be cut no more then; or it ends at the limit of a file that is full, where it is ready no more.
 use Rattle.file_model.specs.Files.{Console, Files, Inode, change_node, console_of, description_of, is_open, is_same_target, no_description, no_node, node_of, pipe_of, set_offset}
 use Rattle.file_model.specs.Operations.{FileResult}
-use Rattle.file_model.specs.Streams.{cut_at, moved_on, put_bytes, ready_if, total_after, with_bytes_at, write_offset, write_ready, write_ready_of}
+use Rattle.file_model.specs.Streams.{moved_on, put_bytes, total_after, write_offset, write_ready, write_ready_of}
 use Rattle.file_model.specs.declared.descriptions.Description.{Description}
 use Rattle.file_model.specs.declared.descriptions.Target.{Target}
 use Rattle.file_model.specs.declared.descriptions.Target.TheVariants.{OfNode, ReadEnd, WriteEnd, OfConsole}
@@ -14,15 +14,15 @@ use Rattle.hybrid_model.specs.Tallies.{as_number}
 use Rattle.kernel_model.specs.Progress.{is_ready, nat_of}
 use Rattle.mck_word.specs.Lists.{spliced}
 use Rattle.mck_word.specs.Maps.{at, change_row, entries}
-use Rattle.std.proofs.Common.{ap, arith, inl, inr, length-append, length-take, refl, subst, sym, ◌∙◌}
+use Rattle.std.proofs.Common.{ap, arith, inl, inr, length-append, length-take, refl, sym, ◌∙◌}
 use Rattle.std.proofs.lemmas.Bool.Decides.{nat_tests}
-use Rattle.std.specs.Prelude.{Bool, List, None, Option, Some, [], cond, false, length, min, nat_le, nat_lt, not, option_map, pos, sum_by, take, true, unwrap_or, ℕ, ◌&&◌, ◌++◌, ◌+◌, ◌-◌, ◌<◌, ◌==◌, ◌≡◌, ◌≤◌, ◌⊎◌}
+use Rattle.std.specs.Prelude.{Bool, List, None, Option, Some, [], cond, false, length, nat_le, nat_lt, not, option_map, sum_by, take, true, unwrap_or, ℕ, ◌&&◌, ◌++◌, ◌+◌, ◌<◌, ◌==◌, ◌≡◌, ◌≤◌, ◌⊎◌}
 use Rattle.work_laws.specs.CutGets.{Idle, present}
 use Rattle.work_laws.specs.KernelLeft.{console_left, file_left, files_left, pipe_left}
 use Rattle.work_laws.specs.NodeLeft.{total-changed}
 use Rattle.work_laws.specs.Quieter.{AsLong, if-ready}
-use Rattle.work_laws.specs.StreamCuts.{as-long-bytes, as-long-moved, as-long-then, file-there, offset-own}
-use Rattle.work_laws.specs.StreamsAdd.{moved-less, put-node, spliced-length, spliced-longer}
+use Rattle.work_laws.specs.StreamCuts.{as-long-bytes, as-long-moved, as-long-then, file-there}
+use Rattle.work_laws.specs.StreamsAdd.{moved-less, put-node, spliced-length}
 
 -- a file on which a description is open is open
 file-open : (files : Files) (d k : ℕ) (x : Description) → at files.descriptions d ≡ Some x → x.target ≡ OfNode k → is_open files (OfNode k) ≡ true
@@ -140,14 +140,7 @@ module _ (files : Files) (d : ℕ) (own : Option ℕ) (moved : ℕ) (given : Lis
     last : offset + n ≡ 1048576
     last = let b = below in omega (arith, l, b)
 
-    -- the file is at least as long as the limit then
-    long-then : (y : Inode) → 1048576 ≤ length (grown y).bytes
-    long-then y =
-        let s = spliced-length y.bytes offset (take n given) in
-        let g = length-take n given in
-        let e = last in
-        omega (arith, s, g, e, l)
-
+    -- the file is then as long as the limit
     longer-is : (y : Inode) → length y.bytes < 1048576 → length (grown y).bytes ≡ 1048576
     longer-is y u =
         let s = spliced-length y.bytes offset (take n given) in

@@ -14,12 +14,12 @@ use Rattle.hybrid_model.specs.Globals.{Coherent, HeapHolds, ring_number}
 use Rattle.hybrid_model.specs.Images.{caller_number, image, image_of_answer, image_of_intake, image_of_interrupt, image_of_park, thread_of_request}
 use Rattle.hybrid_model.specs.Lwk.{answer_to, caller_of, changing_thread, executed_in_run, is_calling, thread_served}
 use Rattle.hybrid_model.specs.Pairs.{Here, Pair, here, side_of}
-use Rattle.hybrid_model.specs.Shown.{one, shown_call, shown_here}
+use Rattle.hybrid_model.specs.Shown.{one, shown_call}
 use Rattle.hybrid_model.specs.Sides.{Caller, Row, Side, served}
 use Rattle.hybrid_model.specs.declared.events.Event.{Event}
 use Rattle.ikc_ring.specs.declared.Msg.{Msg}
-use Rattle.kernel_model.specs.Nodes.{Process, is_there, no_process, process_of, thread_of}
-use Rattle.kernel_model.specs.OneKernel.{Call as OneCall, OneHere, one_here}
+use Rattle.kernel_model.specs.Nodes.{Process, is_there, no_process, process_of}
+use Rattle.kernel_model.specs.OneKernel.{OneHere, one_here}
 use Rattle.kernel_model.specs.Steps.{has_call, is_active}
 use Rattle.kernel_model.specs.declared.steps.Step.{Step}
 use Rattle.mck_word.specs.Identifiers.{tid}
@@ -31,16 +31,16 @@ use Rattle.mck_word.specs.declared.Req.{Req}
 use Rattle.mck_word.specs.declared.Tid.{Tid}
 use Rattle.std.proofs.Common.{ap, arith, inl, inr, refl, subst, sym, ◌∙◌}
 use Rattle.std.proofs.lemmas.Bool.Decides.{nat_tests}
-use Rattle.std.specs.Prelude.{Bool, List, None, Option, Some, [], false, is_some, length, true, unwrap_or, ℕ, ℤ, ◌*◌, ◌+◌, ◌==◌, ◌∷◌, ◌≡◌, ◌≤◌}
+use Rattle.std.specs.Prelude.{Bool, List, None, Option, Some, [], false, is_some, length, true, unwrap_or, ℕ, ℤ, ◌*◌, ◌+◌, ◌∷◌, ◌≡◌, ◌≤◌}
 use Rattle.work_laws.specs.Act.{here_act, here_park_blocks, here_park_stops}
 use Rattle.work_laws.specs.Answer.{here_answer_empty, here_answer_row}
 use Rattle.work_laws.specs.ByStep.{EventPays, by-leads, by-none, by-one, by-run, enough, happens, together}
 use Rattle.work_laws.specs.Copy.{here_copy}
 use Rattle.work_laws.specs.CopyPays.{copy-pays}
-use Rattle.work_laws.specs.Family.{changes_one_side, one_side}
+use Rattle.work_laws.specs.Family.{one_side}
 use Rattle.work_laws.specs.FullSteps.{AllFull}
 use Rattle.work_laws.specs.HereLess.{KernelPays}
-use Rattle.work_laws.specs.Intake.{here_intake_ack, here_intake_fault, here_intake_reply, of_change}
+use Rattle.work_laws.specs.Intake.{here_intake_ack, here_intake_fault, here_intake_reply}
 use Rattle.work_laws.specs.KernelLeft.{Prices}
 use Rattle.work_laws.specs.LwkSides.{here_deliver, here_interrupt_call, here_interrupt_rest, here_reap, here_run, here_script, here_wait}
 use Rattle.work_laws.specs.Many.{all-few, few-answers, few-requests}
@@ -48,7 +48,7 @@ use Rattle.work_laws.specs.Shown.{has-call, is-active, sound-shown, thread-own}
 use Rattle.work_laws.specs.StepPays.{cost_of, gain_of, interrupted-call, interrupted-rest, is_plain}
 use Rattle.work_laws.specs.TrapPays.{trap_cost}
 use Rattle.work_laws.specs.TrapSides.{trap-sides, trap_sides}
-use Rattle.work_laws.specs.Weights.{any_change}
+use Rattle.work_laws.specs.Weights.{any_change, of_change}
 use Rattle.work_laws.specs.Wholes.{HerePays, HereSteps, SidesPay, is_trap, pays-quiet, pays-steps}
 
 -- a step of a call pays for what it changes of the sides, as a change of memory and the end of a process do

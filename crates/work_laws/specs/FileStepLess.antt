@@ -7,15 +7,14 @@ use Rattle.file_model.specs.declared.operations.Readiness.TheVariants.{Ready, Fi
 use Rattle.hybrid_laws.specs.Tests.{both, not-true}
 use Rattle.hybrid_model.specs.Globals.{IsUnderWay}
 use Rattle.kernel_model.specs.Plans.{Act, Gather, Phase, Scatter, Stream, act_of, has_vectors, is_read, is_write, vector_count}
-use Rattle.kernel_model.specs.Progress.{After, Progress, acted, answer_of, drop_used_up, ends, file_step_in, goes_on, has_piece, is_file_step, is_used_up, kind_of_phase, next_kind, ranges_of, settle, stream_end, stream_operation, take_file_step, with_scatter, without_empty}
-use Rattle.kernel_model.specs.Steps.{status_after}
+use Rattle.kernel_model.specs.Progress.{After, Progress, acted, drop_used_up, file_step_in, has_piece, is_file_step, is_used_up, kind_of_phase, next_kind, ranges_of, settle, stream_end, stream_operation, take_file_step, with_scatter, without_empty}
 use Rattle.kernel_model.specs.declared.ranges.Range.{Range}
 use Rattle.mck_word.specs.Lists.{tail}
 use Rattle.std.proofs.Common.{ap, arith, refl, subst, sym, ◌∙◌}
 use Rattle.std.proofs.lemmas.Bool.Decides.{nat_tests}
-use Rattle.std.specs.Prelude.{Bool, List, None, Option, Some, [], cond, false, get_or, length, nat_lt, negsuc, not, pos, true, ℕ, ℤ, ◌&&◌, ◌+◌, ◌==◌, ◌||◌, ◌∷◌, ◌≡◌, ◌≤◌}
+use Rattle.std.specs.Prelude.{Bool, List, Some, [], cond, false, get_or, length, nat_lt, negsuc, not, pos, true, ℕ, ℤ, ◌&&◌, ◌+◌, ◌==◌, ◌||◌, ◌∷◌, ◌≡◌, ◌≤◌}
 use Rattle.work_laws.specs.ActOf.{act-adds, is_refusal, vectors-refuse}
-use Rattle.work_laws.specs.KernelLeft.{begins_with_act, files_left, is_refused, phase_left, phases_left, pieces, pieces_of, progress_left, status_left}
+use Rattle.work_laws.specs.KernelLeft.{begins_with_act, files_left, is_refused, phase_left, phases_left, progress_left}
 use Rattle.work_laws.specs.PlansLeft.{pieces-most}
 use Rattle.work_laws.specs.SettleLess.{after_left, drop-less, ends-less, full-pieces, left-is, settle-dropped, settle-less}
 use Rattle.work_laws.specs.StreamsAdd.{stream-adds}

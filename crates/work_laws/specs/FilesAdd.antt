@@ -1,16 +1,15 @@
 -- What the changes of files leave of the pieces that may be cut: closing takes some away, a node that is opened or emptied adds one.
-use Rattle.std.specs.FinMap as finmap
 use Rattle.file_model.specs.Files.{Files, Inode, change_description, close_all, hold, is_open, is_same_target, leave, lowest_free, opened, set_offset, settled, used_description, used_node, used_pipe, without_unused_descriptions, without_unused_targets}
 use Rattle.file_model.specs.declared.descriptions.Description.{Description}
 use Rattle.file_model.specs.declared.descriptions.Target.{Target}
-use Rattle.file_model.specs.declared.descriptions.Target.TheVariants.{OfNode, ReadEnd, WriteEnd, OfConsole}
+use Rattle.file_model.specs.declared.descriptions.Target.TheVariants.{OfNode, ReadEnd, WriteEnd}
 use Rattle.hybrid_laws.specs.Lookups.{no-row}
 use Rattle.hybrid_laws.specs.NodePrimitives.{at-change}
-use Rattle.hybrid_laws.specs.Sums.{counted_at, counted_in, total-cut-by, total-le, total-put}
+use Rattle.hybrid_laws.specs.Sums.{counted_at, counted_in, total-cut-by, total-le}
 use Rattle.hybrid_laws.specs.Written.{each-entry}
 use Rattle.hybrid_model.specs.Tallies.{Each, as_number}
 use Rattle.mck_word.specs.MapLaws.{at-collect, at-cut, at-put}
-use Rattle.mck_word.specs.Maps.{Map, and_then, at, change, collect, cut, entries, put, some_row, total}
+use Rattle.mck_word.specs.Maps.{and_then, at, collect, cut, entries, total}
 use Rattle.std.proofs.Common.{ap, arith, refl, sym, ◌∙◌}
 use Rattle.std.proofs.lemmas.Bool.Decides.{nat_tests}
 use Rattle.std.specs.List.{list_any}

@@ -12,9 +12,9 @@ use Rattle.mck_word.specs.Lists.{count_from}
 use Rattle.mck_word.specs.MapLaws.{at-none}
 use Rattle.mck_word.specs.Maps.{at, no_rows, put}
 use Rattle.mck_word.specs.Words.{little_endian}
-use Rattle.std.proofs.Common.{arith, length-take, refl, subst, sym}
-use Rattle.std.specs.Prelude.{List, Some, [], drop, flat_map, fold, length, replicate, take, ℕ, ◌*◌, ◌++◌, ◌+◌, ◌-◌, ◌∷◌, ◌≡◌, ◌≤◌}
-use Rattle.work_laws.specs.FullPages.{Full, IsFull, full-put, write_bytes-full}
+use Rattle.std.proofs.Common.{arith, length-take, refl}
+use Rattle.std.specs.Prelude.{List, Some, [], drop, flat_map, fold, length, replicate, take, ℕ, ◌*◌, ◌++◌, ◌+◌, ◌-◌, ◌∷◌, ◌≡◌}
+use Rattle.work_laws.specs.FullPages.{Full, full-put, write_bytes-full}
 use Rattle.work_laws.specs.FullSteps.{AllFull, none-full, put-full}
 
 length-joined : (xs ys : List ℕ) → length (xs ++ ys) ≡ length xs + length ys

@@ -15,13 +15,12 @@ use Rattle.kernel_model.specs.MemoryCalls.{Effect}
 use Rattle.kernel_model.specs.Pages.{page_size, pages_count, zero_page}
 use Rattle.kernel_model.specs.Signals.{Store, stored_all}
 use Rattle.kernel_model.specs.Spaces.{OneSpace, add_page, after_effect, drop_page, each_page, protect_page}
-use Rattle.kernel_model.specs.Steps.{with_page}
 use Rattle.mck_flags.specs.declared.rights.Rights.{Rights}
 use Rattle.mck_word.specs.MapLaws.{at-cut, at-put}
-use Rattle.mck_word.specs.Maps.{Map, at, change, cut, put}
+use Rattle.mck_word.specs.Maps.{at, change, cut, put}
 use Rattle.mck_word.specs.declared.Access.TheVariants.{Read as ReadAccess, Write as WriteAccess}
 use Rattle.mck_word.specs.declared.Regs.{Regs}
-use Rattle.std.proofs.Common.{arith, refl, subst, sym, ◌∙◌}
+use Rattle.std.proofs.Common.{refl, subst, sym, ◌∙◌}
 use Rattle.std.proofs.lemmas.List.{length-set}
 use Rattle.std.specs.Prelude.{Bool, Err, List, None, Ok, Option, Result, Some, [], cond, false, if◌then◌else◌, length, option_map, suc, true, zero, ℕ, ℤ, ◌%◌, ◌+◌, ◌/◌, ◌==◌, ◌^◌, ◌||◌, ◌∷◌, ◌≡◌}
 

@@ -1,15 +1,14 @@
 -- Each page has its 4,096 bytes after each step of the one-kernel machine.
 use Rattle.file_model.specs.FileSteps.{file_step}
 use Rattle.file_model.specs.Files.{Files, description_of}
-use Rattle.file_model.specs.Operations.{FileResult}
 use Rattle.file_model.specs.Streams.{bytes_there}
 use Rattle.file_model.specs.declared.operations.FileOp.TheVariants.{Get, Put}
 use Rattle.isa_model.specs.Memory.{Memory, Page}
-use Rattle.kernel_model.specs.MemoryCalls.{Effect, answer_of_change, effect_of, refusal_at_end}
-use Rattle.kernel_model.specs.Nodes.{Process, change_in, process_of, thread_of}
+use Rattle.kernel_model.specs.MemoryCalls.{effect_of, refusal_at_end}
+use Rattle.kernel_model.specs.Nodes.{change_in, process_of, thread_of}
 use Rattle.kernel_model.specs.OneKernel.{OneHere, OneKernel, Own, no_own, one_here, put_one_here, with_born}
 use Rattle.kernel_model.specs.Plans.{Act, Gather, Phase, Scatter, Stream, is_read}
-use Rattle.kernel_model.specs.Progress.{Progress, description_found, move_piece, moved_in_phase, next_piece, offset_argument, ranges_left, stream_operation, streamed, streamed_in, streamed_out, without_empty}
+use Rattle.kernel_model.specs.Progress.{Progress, description_found, move_piece, moved_in_phase, next_piece, offset_argument, ranges_left, streamed_in, streamed_out, without_empty}
 use Rattle.kernel_model.specs.Signals.{deliver, stored_all}
 use Rattle.kernel_model.specs.Steps.{after, after_all, after_here, answer_in, bytes_at, call_at, has_call, interrupted_as, one_changed, one_piece, one_space, one_trap, one_trapped, one_view, process_of_step, progress_at, return_of, vm_finish, vm_finish_of, call_ended, with_page}
 use Rattle.kernel_model.specs.Traps.{Begins, Changes, Done, Forks, Trapped, trap, waited}

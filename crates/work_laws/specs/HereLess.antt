@@ -1,15 +1,13 @@
 -- One process of the one-kernel machine: what is left to do in it, and the step to the whole state.
-use Rattle.file_model.specs.Files.{Files}
 use Rattle.hybrid_laws.specs.BootCoherent.{zero-total}
 use Rattle.hybrid_laws.specs.NewSide.{no-at}
-use Rattle.hybrid_laws.specs.Sums.{counted_in, total-cut, total-put}
-use Rattle.kernel_model.specs.Nodes.{Node}
+use Rattle.hybrid_laws.specs.Sums.{counted_in, total-put}
 use Rattle.kernel_model.specs.OneKernel.{Call, OneHere, OneKernel, Own, no_own, one_here, put_one_here, with_born}
-use Rattle.mck_word.specs.Maps.{Map, at, cut, no_rows, put, total}
+use Rattle.mck_word.specs.Maps.{Map, at, no_rows, put, total}
 use Rattle.std.proofs.Common.{ap, arith, refl, ◌∙◌}
 use Rattle.std.proofs.Math.Nat.{mul-le-mul_left}
 use Rattle.std.specs.Prelude.{None, Option, Some, unwrap_or, ℕ, ◌*◌, ◌+◌, ◌≡◌, ◌≤◌}
-use Rattle.work_laws.specs.KernelLeft.{Prices, calls_left, files_left, kernel_left, marks_left, node_left, of_mark, own_calls_left, own_marks_left, status_left}
+use Rattle.work_laws.specs.KernelLeft.{Prices, calls_left, files_left, kernel_left, node_left, of_mark, own_calls_left, own_marks_left, status_left}
 
 abbrev pub here_left : Prices → OneHere → ℕ
 here_left k h = k.step * (files_left h.node.files + own_calls_left h.own) + own_marks_left h.own + node_left k h.node

@@ -19,16 +19,12 @@ use Rattle.mck_word.specs.declared.Access.{Access}
 use Rattle.mck_word.specs.declared.Pid.{Pid}
 use Rattle.mck_word.specs.declared.Req.{Req}
 use Rattle.std.proofs.Common.{ap, arith, subst, sym}
-use Rattle.std.specs.Prelude.{List, None, Option, Some, length, ℕ, ℤ, ◌*◌, ◌+◌, ◌∷◌, ◌≡◌, ◌≤◌}
+use Rattle.std.specs.Prelude.{List, None, Option, Some, length, ℕ, ℤ, ◌+◌, ◌∷◌, ◌≡◌, ◌≤◌}
 use Rattle.work_laws.specs.FetchClear.{answers}
 use Rattle.work_laws.specs.Late.{rings-late}
 use Rattle.work_laws.specs.SameFiles.{files-intake}
-use Rattle.work_laws.specs.Weights.{any_change, of_back, of_clear, of_noted, of_side}
+use Rattle.work_laws.specs.Weights.{of_back, of_change, of_noted, of_side}
 use Rattle.work_laws.specs.Wholes.{HerePays}
-
--- what the end of a round raises at most
-abbrev pub of_change : ℕ → ℕ
-of_change workers = of_clear workers + 4 + any_change * workers
 
 module _ (p : ℕ) (h : Here) (q : Pid) where
   abbrev Pays : List Msg → ℕ → ℕ → Type 0

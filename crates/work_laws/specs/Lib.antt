@@ -60,3 +60,16 @@ pub mod TrapSides
 pub mod ByStep
 pub mod EventsLess
 pub mod Family
+pub mod Left
+pub mod WholePages
+pub mod EachLessens
+pub mod PaidWork
+pub mod FilesBegin
+pub mod BootLeft
+pub mod Allowance
+pub mod Calmer
+pub mod Settled
+pub mod TrapEnds
+pub mod EachCalmer
+pub mod Paying
+pub mod LeftLess

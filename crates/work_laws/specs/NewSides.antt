@@ -3,12 +3,10 @@ use Rattle.file_model.specs.Files.{Files}
 use Rattle.hybrid_laws.specs.NewSide.{no-at}
 use Rattle.hybrid_model.specs.Sides.{Row, Side, new_side, no_lwk}
 use Rattle.hybrid_model.specs.Tallies.{sum_rings}
-use Rattle.ikc_ring.specs.declared.Call.{Call}
 use Rattle.ikc_ring.specs.declared.Msg.{Msg}
 use Rattle.mck_word.specs.Maps.{Map, at, entries, no_rows}
-use Rattle.request_book.specs.declared.ReqState.{ReqState}
 use Rattle.std.proofs.Common.{arith, refl}
-use Rattle.std.specs.Prelude.{[], replicate, suc, sum_by, zero, ℕ, ◌+◌, ◌≡◌, ◌≤◌}
+use Rattle.std.specs.Prelude.{[], replicate, suc, sum_by, zero, ℕ, ◌+◌, ◌≡◌}
 use Rattle.work_laws.specs.HereLess.{total-none}
 use Rattle.work_laws.specs.Rows.{rows-le}
 use Rattle.work_laws.specs.Weights.{of_clear, of_message, of_noted, of_pin, of_request, of_side}

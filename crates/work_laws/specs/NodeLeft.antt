@@ -1,10 +1,9 @@
 -- What is left to do for threads and processes, through each of the few words by which calls and signals change a node.
-use Rattle.hybrid_laws.specs.NodePrimitives.{at-change}
 use Rattle.hybrid_laws.specs.Sums.{counted_in, total-cut, total-le, total-put}
 use Rattle.kernel_model.specs.LocalCalls.{falls_asleep, is_waiter, waiters, wake, wake_threads}
-use Rattle.kernel_model.specs.Nodes.{Node, Process, Sleeper, Thread, answered, change_process, change_thread, dies, dies_from, has_ended, sent_back, set_a0, set_does, set_pc, without_sleeper, without_thread, process_of, thread_of, process_of}
+use Rattle.kernel_model.specs.Nodes.{Node, Process, Sleeper, Thread, answered, change_process, change_thread, dies, dies_from, has_ended, sent_back, set_a0, set_does, set_pc, without_thread, process_of, thread_of, process_of}
 use Rattle.kernel_model.specs.SignalSets.{has, with_signal, without_signal}
-use Rattle.kernel_model.specs.Signals.{drop_ignored, generate_for_process, generate_for_thread, ignores, moved_to_own, next_signal, raised, taken}
+use Rattle.kernel_model.specs.Signals.{drop_ignored, generate_for_process, generate_for_thread, ignores, raised}
 use Rattle.kernel_model.specs.declared.Does.{Does}
 use Rattle.kernel_model.specs.declared.Does.TheVariants.{Asleep, Ready}
 use Rattle.kernel_model.specs.declared.Life.{Life}
@@ -14,8 +13,8 @@ use Rattle.mck_word.specs.Maps.{Map, and_then, at, change, change_row, each, tot
 use Rattle.mck_word.specs.Words.{word_of}
 use Rattle.mck_word.specs.declared.End.{End}
 use Rattle.mck_word.specs.declared.End.TheVariants.{Killed}
-use Rattle.std.proofs.Common.{ap, arith, refl, sym, ◌∙◌}
-use Rattle.std.specs.Prelude.{Bool, List, None, Option, Some, [], cond, false, filter, not, option_map, pos, take, true, ℕ, ℤ, ◌+◌, ◌-◌, ◌==◌, ◌^◌, ◌∷◌, ◌≡◌, ◌≤◌, ◌||◌}
+use Rattle.std.proofs.Common.{ap, arith, refl, ◌∙◌}
+use Rattle.std.specs.Prelude.{Bool, List, None, Option, Some, [], cond, false, filter, not, pos, take, true, ℕ, ℤ, ◌+◌, ◌-◌, ◌==◌, ◌^◌, ◌∷◌, ◌≡◌, ◌≤◌, ◌||◌}
 use Rattle.work_laws.specs.KernelLeft.{Prices, node_left, of_does, of_process, of_thread}
 use Rattle.work_laws.specs.Signals.{signals, with-most, without-most}
 

@@ -1,13 +1,12 @@
 -- What the steps of the one-kernel machine leave to do for threads and processes: instructions, deliveries, marks, answers, waits, the script and the end of a process.
-use Rattle.hybrid_laws.specs.Sums.{counted_in, total-cut, total-le, total-put}
-use Rattle.hybrid_laws.specs.Tests.{some-is}
+use Rattle.hybrid_laws.specs.Sums.{counted_in, total-cut, total-le}
 use Rattle.file_model.specs.Errno.{ECHILD, EFAULT, EINTR, EPIPE}
 use Rattle.file_model.specs.Files.{close_all}
 use Rattle.isa_model.specs.Instr.{instr}
 use Rattle.isa_model.specs.Memory.{may_access}
 use Rattle.isa_model.specs.declared.stops.Stop.{Stop}
 use Rattle.isa_model.specs.declared.stops.Stop.TheVariants.{Break, Ecall, Illegal, Misaligned, On, Fault as StopFault}
-use Rattle.kernel_model.specs.CloneCalls.{ended_child, noted_waited, status_of_life, tells_end, wait_over, waits_for}
+use Rattle.kernel_model.specs.CloneCalls.{ended_child, noted_waited, status_of_life, wait_over, waits_for}
 use Rattle.kernel_model.specs.LocalCalls.{answers, refuses}
 use Rattle.kernel_model.specs.Nodes.{Node, Process, ScriptLine, Sleeper, Thread, action_of, answered, change_process, change_thread, dies, dying, has_ended, is_living, no_process, no_thread, process_of, sent_back, set_a0, set_pc, thread_of, without_sleeper, without_thread}
 use Rattle.kernel_model.specs.SignalSets.{has, with_signal, without_signal}
@@ -20,16 +19,15 @@ use Rattle.kernel_model.specs.declared.Does.TheVariants.{Asleep, Called, InVm, I
 use Rattle.kernel_model.specs.declared.Life.{Life}
 use Rattle.kernel_model.specs.declared.Life.TheVariants.{Dying, Ended, Living}
 use Rattle.mck_word.specs.MapLaws.{at-collect}
-use Rattle.mck_word.specs.Maps.{Map, and_then, at, change_row, collect, total}
+use Rattle.mck_word.specs.Maps.{Map, and_then, at, collect, total}
 use Rattle.mck_word.specs.Words.{little_endian, refused, word_of}
 use Rattle.mck_word.specs.declared.Access.TheVariants.{Write}
 use Rattle.mck_word.specs.declared.End.TheVariants.{Killed}
 use Rattle.mck_word.specs.declared.Regs.{Regs}
 use Rattle.std.proofs.Common.{ap, arith, refl, subst, sym, ◌∙◌}
-use Rattle.std.specs.Prelude.{Bool, List, None, Option, Some, cond, false, filter, is_some, not, pos, slice_set, true, unwrap_or, ℕ, ℤ, ◌+◌, ◌-◌, ◌<◌, ◌==◌, ◌^◌, ◌≡◌, ◌≤◌}
-use Rattle.work_laws.specs.CallsAdd.{wait_over-adds}
+use Rattle.std.specs.Prelude.{Bool, None, Option, Some, cond, false, filter, is_some, not, pos, slice_set, true, unwrap_or, ℕ, ℤ, ◌+◌, ◌-◌, ◌<◌, ◌==◌, ◌^◌, ◌≡◌, ◌≤◌}
 use Rattle.work_laws.specs.KernelLeft.{Prices, node_left, of_does, of_process, of_thread}
-use Rattle.work_laws.specs.NodeLeft.{Adds, adds-more, adds-none, adds-then, answered-adds, dies-adds, for_process-adds, for_thread-adds, gone-adds, ignored-adds, process-adds, sent_back-adds, thread-adds, total-change, total-changed}
+use Rattle.work_laws.specs.NodeLeft.{Adds, adds-more, adds-none, adds-then, answered-adds, dies-adds, for_process-adds, for_thread-adds, gone-adds, ignored-adds, process-adds, sent_back-adds, thread-adds, total-changed}
 use Rattle.work_laws.specs.Signals.{next-there, none-has, signals, with-most, without-less}
 
 module _ (k : Prices) where

@@ -1,19 +1,18 @@
 -- A piece that is gathered or scattered leaves less to do: its page is touched no more by what is left of its range. And vectors have few pieces.
 use Rattle.file_model.specs.Errno.{EINVAL, ENAMETOOLONG}
 use Rattle.file_model.specs.Files.{Files}
-use Rattle.hybrid_laws.specs.Tests.{not-empty}
 use Rattle.kernel_model.specs.Pages.{first_piece}
 use Rattle.kernel_model.specs.Plans.{Act, Gather, Phase, Scatter, Stream, has_path, most_moved}
-use Rattle.kernel_model.specs.Progress.{After, Moved, Progress, advanced, cut_ranges, ends, gather_path, gather_vectors, gathered, goes_on, has_piece, moved_in_phase, next_piece, ranges_left, ranges_of, scattered, settle, stays, vectors, without_empty}
+use Rattle.kernel_model.specs.Progress.{After, Progress, advanced, cut_ranges, ends, gather_path, gather_vectors, gathered, goes_on, has_piece, next_piece, ranges_left, ranges_of, scattered, settle, vectors, without_empty}
 use Rattle.kernel_model.specs.declared.ranges.Range.{Range}
-use Rattle.mck_word.specs.Lists.{before_zero, spliced, tail}
-use Rattle.mck_word.specs.Words.{number_of, refused}
+use Rattle.mck_word.specs.Lists.{before_zero, tail}
+use Rattle.mck_word.specs.Words.{refused}
 use Rattle.mck_word.specs.declared.parts.Piece.{Piece}
-use Rattle.std.proofs.Common.{ap, arith, refl, subst, sym, ◌∙◌}
+use Rattle.std.proofs.Common.{ap, arith, refl, sym, ◌∙◌}
 use Rattle.std.proofs.lemmas.Bool.Decides.{nat_tests}
 use Rattle.std.specs.List.{list_any}
-use Rattle.std.specs.Prelude.{zero, suc, Bool, List, None, Option, Some, [], cond, drop, false, filter, get_or, length, min, nat_le, nat_lt, take, true, ℕ, ℤ, ◌%◌, ◌*◌, ◌++◌, ◌+◌, ◌-◌, ◌/◌, ◌<◌, ◌==◌, ◌^◌, ◌∷◌, ◌≡◌, ◌≤◌}
-use Rattle.work_laws.specs.KernelLeft.{begins_with_act, files_left, phase_left, phases_left, pieces, pieces_of, progress_left}
+use Rattle.std.specs.Prelude.{zero, suc, Bool, List, [], cond, drop, false, get_or, length, min, nat_le, nat_lt, take, true, ℕ, ◌%◌, ◌*◌, ◌++◌, ◌+◌, ◌-◌, ◌/◌, ◌<◌, ◌==◌, ◌^◌, ◌∷◌, ◌≡◌, ◌≤◌}
+use Rattle.work_laws.specs.KernelLeft.{begins_with_act, files_left, phase_left, phases_left, pieces, progress_left}
 use Rattle.work_laws.specs.SettleLess.{after_left, ends-less, full-pieces, left-is, on-less, settle-less}
 
 -- ---- the first range, after a piece

@@ -6,10 +6,10 @@ use Rattle.kernel_model.specs.Progress.{Progress, starting}
 use Rattle.kernel_model.specs.declared.ranges.Range.{Range}
 use Rattle.mck_word.specs.Lists.{member}
 use Rattle.mck_word.specs.Words.{int_argument}
-use Rattle.std.proofs.Common.{ap, arith, refl, subst, sym, ◌∙◌}
+use Rattle.std.proofs.Common.{ap, arith, refl, subst, ◌∙◌}
 use Rattle.std.proofs.lemmas.Bool.Decides.{nat_tests}
-use Rattle.std.specs.Prelude.{Bool, List, Some, [], cond, false, min, nat_lt, negsuc, pos, true, ℕ, ℤ, not, ◌%◌, ◌&&◌, ◌*◌, ◌+◌, ◌/◌, ◌==◌, ◌∷◌, ◌≡◌, ◌≤◌, ◌||◌}
-use Rattle.work_laws.specs.KernelLeft.{begins_with_act, is_refused, phase_left, phases_left, pieces_of, progress_left}
+use Rattle.std.specs.Prelude.{Bool, List, [], cond, false, min, nat_lt, negsuc, pos, true, ℕ, ℤ, not, ◌%◌, ◌&&◌, ◌*◌, ◌+◌, ◌/◌, ◌==◌, ◌∷◌, ◌≡◌, ◌≤◌, ◌||◌}
+use Rattle.work_laws.specs.KernelLeft.{begins_with_act, is_refused, phases_left, pieces_of, progress_left}
 
 pub pieces-most : (r : Range) → pieces_of r ≤ r.len / 4096 + 2
 pieces-most r = go (nat_lt 0 r.len)

@@ -1,23 +1,20 @@
 -- Files in which no step of a call is ready that was not ready before, and each that waited still waits: an offset goes on, and a file keeps its length.
 use Rattle.file_model.specs.FileSteps.{ready}
-use Rattle.file_model.specs.Files.{Files, Inode, change_node, console_of, description_of, is_open, is_same_target, most_bytes_of_all_files, most_file_bytes, no_description, no_node, node_of, pipe_of, set_offset, total_bytes}
-use Rattle.file_model.specs.Streams.{cut_at, moved_on, read_offset, read_ready_of, ready_if, total_after, write_offset, write_ready_of}
+use Rattle.file_model.specs.Files.{Files, description_of, is_open, most_bytes_of_all_files, most_file_bytes, node_of, total_bytes}
+use Rattle.file_model.specs.Streams.{cut_at, read_offset, read_ready_of, ready_if, total_after, write_offset, write_ready_of}
 use Rattle.file_model.specs.declared.descriptions.Description.{Description}
 use Rattle.file_model.specs.declared.descriptions.Target.{Target}
 use Rattle.file_model.specs.declared.descriptions.Target.TheVariants.{OfNode, ReadEnd, WriteEnd, OfConsole}
 use Rattle.file_model.specs.declared.operations.FileOp.{FileOp}
 use Rattle.file_model.specs.declared.operations.FileOp.TheVariants.{Openat, Mkdirat, Unlinkat, Close, Lseek, Ioctl, Pipe2, Fstat, Getdents, Read as ReadAct, Write as WriteAct, Get, Put, Leave}
-use Rattle.file_model.specs.declared.operations.Readiness.{Readiness}
 use Rattle.file_model.specs.declared.operations.Readiness.TheVariants.{Ready, NotReady, FileStep}
-use Rattle.hybrid_laws.specs.NodePrimitives.{at-change}
 use Rattle.hybrid_laws.specs.Tests.{both}
 use Rattle.kernel_model.specs.Plans.{Act, Gather, Phase, Scatter, Stream}
 use Rattle.kernel_model.specs.Progress.{Progress, has_piece, is_not_ready, is_ready, kind_of_phase, next_kind, stream_operation}
-use Rattle.mck_word.specs.Maps.{at, change, some_row, total}
-use Rattle.std.proofs.Common.{ap, arith, refl, subst, sym, ◌∙◌}
+use Rattle.mck_word.specs.Maps.{at}
+use Rattle.std.proofs.Common.{ap, arith, refl, sym, ◌∙◌}
 use Rattle.std.proofs.lemmas.Bool.Decides.{nat_tests}
-use Rattle.std.specs.Prelude.{Bool, List, None, Option, Some, [], cond, false, get_or, length, max, min, nat_le, nat_lt, not, option_map, true, unwrap_or, ℕ, ◌&&◌, ◌+◌, ◌-◌, ◌<◌, ◌==◌, ◌≡◌, ◌≤◌}
-use Rattle.work_laws.specs.FilesAdd.{WasOpen, open-less}
+use Rattle.std.specs.Prelude.{Bool, None, Option, Some, [], cond, false, get_or, length, max, min, nat_le, nat_lt, not, true, unwrap_or, ℕ, ◌&&◌, ◌+◌, ◌-◌, ◌<◌, ◌==◌, ◌≡◌, ◌≤◌}
 
 pub record Quieter (a b : Files) : Type 0 where
   pub no_readier : (op : FileOp) → is_ready (ready b op) ≡ true → is_ready (ready a op) ≡ true

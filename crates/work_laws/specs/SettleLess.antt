@@ -1,14 +1,12 @@
 -- What a step of a call leaves before it: phases that are used up are passed over, a call that ends counts nothing, and a description that is given back adds nothing.
 use Rattle.file_model.specs.Acts.{count_is_valid}
 use Rattle.file_model.specs.Files.{Files, leave}
-use Rattle.kernel_model.specs.OneKernel.{CallStatus}
-use Rattle.kernel_model.specs.Plans.{Act, Gather, Phase, Scatter, Stream, has_vectors, vector_count}
+use Rattle.kernel_model.specs.Plans.{Phase, has_vectors, vector_count}
 use Rattle.kernel_model.specs.Progress.{After, Progress, answer_of, drop_used_up, ends, given_back, goes_on, is_used_up, settle, settled_progress, without_empty}
 use Rattle.kernel_model.specs.Steps.{status_after}
 use Rattle.kernel_model.specs.declared.ranges.Range.{Range}
 use Rattle.std.proofs.Common.{ap, arith, refl}
-use Rattle.std.proofs.lemmas.Bool.Decides.{nat_tests}
-use Rattle.std.specs.Prelude.{Bool, List, None, Option, Some, [], cond, false, filter, length, nat_lt, not, true, ℕ, ℤ, ◌%◌, ◌&&◌, ◌+◌, ◌/◌, ◌==◌, ◌∷◌, ◌≡◌, ◌≤◌}
+use Rattle.std.specs.Prelude.{Bool, List, None, Option, Some, [], cond, false, length, nat_lt, not, true, ℕ, ℤ, ◌%◌, ◌&&◌, ◌+◌, ◌/◌, ◌==◌, ◌∷◌, ◌≡◌, ◌≤◌}
 use Rattle.work_laws.specs.FilesAdd.{leave-less}
 use Rattle.work_laws.specs.KernelLeft.{begins_with_act, files_left, phase_left, phases_left, pieces, pieces_of, progress_left, status_left}
 use Rattle.work_laws.specs.PlansLeft.{left-most}

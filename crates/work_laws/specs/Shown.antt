@@ -1,21 +1,18 @@
 -- What the two kernels show: its calls are sound, and a call that a worker holds is active there.
 use Rattle.hybrid_laws.specs.NewSide.{no-at}
 use Rattle.hybrid_laws.specs.Speaking.{shown-call-at, the-caller, the-thread, thread-served-is}
-use Rattle.hybrid_laws.specs.WholePair.{has-side}
 use Rattle.hybrid_laws.specs.WholeSteps.{one-here}
 use Rattle.hybrid_model.specs.Globals.{Coherent, StatusHolds, ring_number}
 use Rattle.hybrid_model.specs.Lwk.{thread_served}
 use Rattle.hybrid_model.specs.Pairs.{Here, Pair, here, side_of}
-use Rattle.hybrid_model.specs.Shown.{one, shown_call, shown_here, shown_own}
+use Rattle.hybrid_model.specs.Shown.{one, shown_call, shown_own}
 use Rattle.hybrid_model.specs.Sides.{Caller, Service, Side, new_side, service_of}
 use Rattle.ikc_ring.specs.declared.Call.{Call}
 use Rattle.kernel_model.specs.Nodes.{Thread, no_thread, thread_of}
 use Rattle.kernel_model.specs.OneKernel.{Active, Call as OneCall, OneHere, Own, no_own, one_here}
-use Rattle.kernel_model.specs.Progress.{Progress}
-use Rattle.kernel_model.specs.Steps.{active, call_at, has_call, holds_of, is_active, no_call, progress_at, progress_in}
+use Rattle.kernel_model.specs.Steps.{active, has_call, holds_of, is_active, no_call, progress_at, progress_in}
 use Rattle.mck_word.specs.MapLaws.{at-collect}
-use Rattle.mck_word.specs.Maps.{and_then, at, each, no_rows}
-use Rattle.request_book.specs.declared.ReqState.{ReqState}
+use Rattle.mck_word.specs.Maps.{and_then, at, each}
 use Rattle.request_book.specs.declared.ReqState.TheVariants.{Held}
 use Rattle.std.proofs.Common.{ap, arith, refl, subst, sym, ◌∙◌}
 use Rattle.std.specs.Prelude.{Bool, None, Option, Some, is_some, true, unwrap_or, ℕ, ◌&&◌, ◌≡◌}

@@ -8,7 +8,7 @@ use Rattle.std.proofs.lemmas.Bool.Decides.{nat_tests}
 use Rattle.std.proofs.lemmas.Nat.Bits.{and_pow, bit_at-lt, bit_at-pow_other, bit_at-pow_same, bit_at-zero, bit_at_and, bit_at_or}
 use Rattle.std.proofs.lemmas.Nat.{and-not, and_comm, div-mul-add, mod_below, or_disjoint, pow_pos, shr_split}
 use Rattle.std.specs.Int.{bit_at}
-use Rattle.std.specs.Prelude.{zero, suc, Bool, Option, Some, bit_and, bit_or, cond, false, find, nat_lt, true, ℕ, ◌%◌, ◌*◌, ◌+◌, ◌-◌, ◌/◌, ◌<◌, ◌==◌, ◌^◌, ◌≡◌, ◌≢◌, ◌≤◌}
+use Rattle.std.specs.Prelude.{zero, suc, Bool, Some, bit_and, bit_or, cond, false, find, nat_lt, true, ℕ, ◌%◌, ◌*◌, ◌+◌, ◌-◌, ◌/◌, ◌<◌, ◌==◌, ◌^◌, ◌≡◌, ◌≢◌, ◌≤◌}
 
 -- the signals of a set, 1 to 64
 unfoldable pub signals : ℕ → ℕ

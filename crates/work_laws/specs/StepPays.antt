@@ -2,16 +2,16 @@
 use Rattle.kernel_model.specs.MemoryCalls.{refusal_at_end}
 use Rattle.kernel_model.specs.Nodes.{change_in, process_of, thread_of}
 use Rattle.kernel_model.specs.OneKernel.{OneHere, OneKernel, one_here}
-use Rattle.kernel_model.specs.Steps.{after, after_here, answer_in, call_at, call_ended, has_call, is_active, may, may_here, one_changed, one_piece, one_trap, process_of_step, return_of, vm_finish, vm_finish_of, interrupted_as}
+use Rattle.kernel_model.specs.Steps.{after, after_here, answer_in, call_at, call_ended, has_call, is_active, may, may_here, one_changed, one_piece, process_of_step, return_of, vm_finish, vm_finish_of, interrupted_as}
 use Rattle.kernel_model.specs.declared.Change.{Change}
 use Rattle.kernel_model.specs.declared.steps.Step.{Step}
 use Rattle.kernel_model.specs.declared.steps.Step.TheVariants.{Instr, Trap, Deliver, VmFinish, Piece, PieceFault, FileStep, Block, Wake, Return, Mark, Interrupted, Wait, Script, End}
 use Rattle.hybrid_laws.specs.Tests.{both, not-true}
-use Rattle.kernel_model.specs.Progress.{Progress, has_piece, is_file_step, is_not_ready, next_kind}
+use Rattle.kernel_model.specs.Progress.{Progress, has_piece, is_not_ready, next_kind}
 use Rattle.kernel_model.specs.Steps.{piece_has_right}
-use Rattle.kernel_model.specs.Traps.{may_be_called_back, may_be_marked}
+use Rattle.kernel_model.specs.Traps.{may_be_marked}
 use Rattle.mck_word.specs.declared.Tid.{Tid}
-use Rattle.std.proofs.Common.{ap, arith, refl, sym, ◌∙◌}
+use Rattle.std.proofs.Common.{arith, refl}
 use Rattle.std.specs.Prelude.{Bool, None, Option, Some, false, not, true, ℕ, ℤ, ◌&&◌, ◌≡◌, ◌||◌}
 use Rattle.work_laws.specs.CallSteps.{CallsSound, block-pays, fault-pays, file-pays, interrupted-pays, wake-pays}
 use Rattle.work_laws.specs.HereLess.{IsNew, KernelPays, OnePays, whole-pays}

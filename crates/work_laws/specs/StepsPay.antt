@@ -1,29 +1,27 @@
 -- What the other steps of the one-kernel machine leave to do, but a trap: instructions, deliveries, answers that come later, marks, the script and the end of a process.
 use Rattle.file_model.specs.Files.{close_all}
-use Rattle.hybrid_laws.specs.CallsClosed.{deliver-closed, finishes-closed, moved-closed, returns-closed, script-closed, wait_over-closed}
+use Rattle.hybrid_laws.specs.CallsClosed.{deliver-closed, finishes-closed, moved-closed, returns-closed}
 use Rattle.hybrid_laws.specs.Sums.{counted_in, total-cut, total-put}
-use Rattle.hybrid_laws.specs.Tests.{both, not-true, some-is}
-use Rattle.kernel_model.specs.MemoryCalls.{Effect, answer_of_change, effect_of, refusal_at_end}
+use Rattle.hybrid_laws.specs.Tests.{both, some-is}
+use Rattle.kernel_model.specs.MemoryCalls.{answer_of_change, effect_of, refusal_at_end}
 use Rattle.kernel_model.specs.Nodes.{Node, Process, Sleeper, Thread, change_in, change_process, dying, has_thread, is_dying, is_living, ready_to_run, no_process, no_thread, process_of, rests, thread_of}
-use Rattle.kernel_model.specs.OneKernel.{Call, CallStatus, OneHere, Over, no_own}
-use Rattle.kernel_model.specs.Signals.{View, deliver, generate_for_process, is_deliverable, moved_to_own, view}
-use Rattle.kernel_model.specs.Steps.{answer_in, call_at, has_call, may_change, may_end, no_call, one_changed, one_effect, one_view, return_of, set_break, set_status, vm_finish, vm_finish_of, with_memory, with_node, with_view}
-use Rattle.kernel_model.specs.Traps.{Ran, called_back, executed, finishes, life_ended, may_be_called_back, may_deliver, may_wait, may_end_wait_of, process_ended, returns, script_sent, tells_parent, wait_of, waited, waited_for}
-use Rattle.kernel_model.specs.CloneCalls.{may_end_wait}
+use Rattle.kernel_model.specs.OneKernel.{Call, OneHere, no_own}
+use Rattle.kernel_model.specs.Signals.{deliver, generate_for_process, is_deliverable, moved_to_own}
+use Rattle.kernel_model.specs.Steps.{answer_in, call_at, has_call, may_change, may_end, one_changed, one_view, return_of, set_break, set_status, vm_finish, vm_finish_of, with_memory, with_node, with_view}
+use Rattle.kernel_model.specs.Traps.{called_back, executed, finishes, life_ended, may_be_called_back, may_deliver, may_wait, may_end_wait_of, process_ended, script_sent, wait_of, waited}
 use Rattle.kernel_model.specs.declared.Change.{Change}
 use Rattle.kernel_model.specs.declared.Does.{Does}
 use Rattle.kernel_model.specs.declared.Does.TheVariants.{Asleep, Called, InVm, InWait, Ready, Stopped}
-use Rattle.kernel_model.specs.declared.Life.{Life}
-use Rattle.mck_word.specs.Maps.{Map, at, collect, count, cut, put}
+use Rattle.mck_word.specs.Maps.{Map, at, collect, count}
 use Rattle.std.proofs.Common.{ap, arith, refl, sym, ◌∙◌}
 use Rattle.std.proofs.Math.Nat.{mul-le-mul_left}
-use Rattle.std.specs.Prelude.{Bool, None, Option, Some, cond, false, filter, is_some, not, true, unwrap_or, ℕ, ℤ, ◌&&◌, ◌*◌, ◌+◌, ◌==◌, ◌≡◌, ◌≤◌}
+use Rattle.std.specs.Prelude.{Bool, None, Option, Some, cond, false, filter, is_some, not, true, unwrap_or, ℕ, ℤ, ◌&&◌, ◌+◌, ◌==◌, ◌≡◌, ◌≤◌}
 use Rattle.work_laws.specs.CallSteps.{found}
 use Rattle.work_laws.specs.FilesAdd.{close_all-less}
 use Rattle.work_laws.specs.HereLess.{OnePays, none-left, none-marked}
-use Rattle.work_laws.specs.KernelLeft.{Prices, files_left, node_left, of_does, of_mark, of_thread, own_calls_left, own_marks_left, status_left}
+use Rattle.work_laws.specs.KernelLeft.{Prices, files_left, node_left, of_does, of_mark, own_calls_left, own_marks_left, status_left}
 use Rattle.work_laws.specs.NodeLeft.{Adds, process-adds}
-use Rattle.work_laws.specs.NodeSteps.{called_back-less, deliver-less, ended-less, executed-adds, finishes-adds, finishes-less, moved-less, returns-adds, script-adds, waited-less}
+use Rattle.work_laws.specs.NodeSteps.{called_back-less, deliver-less, ended-less, executed-adds, finishes-less, moved-less, returns-adds, script-adds, waited-less}
 use Rattle.work_laws.specs.SameFiles.{SameFiles, for_process-files, same-files, waited-files}
 
 module _ (k : Prices) (h : OneHere) where

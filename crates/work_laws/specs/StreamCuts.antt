@@ -1,22 +1,15 @@
 -- A piece of a stream that is cut: it comes to the end of a pipe or a console, or grows a file to its limit, which may be cut no more then; or it is quiet, and its step isn't ready after it.
-use Rattle.file_model.specs.Files.{Console, Files, Inode, change_console, change_node, change_pipe, console_of, description_of, is_open, is_same_target, most_console_bytes, most_file_bytes, most_pipe_bytes, no_description, no_node, node_of, pipe_of, set_offset, total_bytes}
-use Rattle.file_model.specs.Streams.{bytes_there, cut_at, get_piece, got, moved_on, put_bytes, read_offset, read_ready_of, ready_if, total_after, with_bytes_at, write_offset, write_ready_of}
+use Rattle.file_model.specs.Files.{Files, Inode, change_node, description_of, is_open, no_description, no_node, node_of, set_offset, total_bytes}
+use Rattle.file_model.specs.Streams.{moved_on}
 use Rattle.file_model.specs.declared.descriptions.Description.{Description}
 use Rattle.file_model.specs.declared.descriptions.Target.{Target}
 use Rattle.file_model.specs.declared.descriptions.Target.TheVariants.{OfNode, ReadEnd, WriteEnd, OfConsole}
-use Rattle.file_model.specs.declared.operations.Readiness.TheVariants.{Ready, NotReady, FileStep}
-use Rattle.hybrid_laws.specs.Lookups.{no-row}
 use Rattle.hybrid_laws.specs.NodePrimitives.{at-change}
-use Rattle.hybrid_laws.specs.Tests.{both}
-use Rattle.hybrid_model.specs.Tallies.{as_number}
-use Rattle.kernel_model.specs.Progress.{is_ready}
-use Rattle.mck_word.specs.Lists.{spliced}
-use Rattle.mck_word.specs.Maps.{Map, at, change, change_row, entries, total}
-use Rattle.std.proofs.Common.{ap, arith, length-append, length-drop, length-take, refl, subst, sym, ◌∙◌}
+use Rattle.mck_word.specs.Maps.{at, change_row, total}
+use Rattle.std.proofs.Common.{ap, arith, refl, subst, sym, ◌∙◌}
 use Rattle.std.proofs.lemmas.Bool.Decides.{nat_tests}
-use Rattle.std.specs.Prelude.{Bool, List, None, Option, Some, [], cond, drop, false, length, max, min, nat_le, nat_lt, not, option_map, sum_by, take, true, unwrap_or, ℕ, ◌&&◌, ◌++◌, ◌+◌, ◌-◌, ◌<◌, ◌==◌, ◌≡◌, ◌≤◌, ◌⊎◌}
+use Rattle.std.specs.Prelude.{Bool, None, Option, Some, cond, false, length, option_map, true, unwrap_or, ℕ, ◌==◌, ◌≡◌, ◌≤◌}
 use Rattle.work_laws.specs.FilesAdd.{WasOpen, open-less, was-change}
-use Rattle.work_laws.specs.KernelLeft.{console_left, file_left, files_left, pipe_left}
 use Rattle.work_laws.specs.NodeLeft.{total-changed}
 use Rattle.work_laws.specs.Quieter.{AsLong, GoneOn}
 

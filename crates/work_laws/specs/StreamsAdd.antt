@@ -5,7 +5,6 @@ use Rattle.file_model.specs.Operations.{FileResult, done, fails}
 use Rattle.file_model.specs.Streams.{bytes_there, cut_at, get_piece, got, moved_on, put_bytes, put_piece, read_offset, with_bytes_at, write_error, write_offset, write_ready}
 use Rattle.file_model.specs.declared.descriptions.Target.{Target}
 use Rattle.file_model.specs.declared.descriptions.Target.TheVariants.{OfNode, ReadEnd, WriteEnd, OfConsole}
-use Rattle.file_model.specs.declared.operations.FileOp.{FileOp}
 use Rattle.file_model.specs.declared.operations.FileOp.TheVariants.{Get, Put}
 use Rattle.file_model.specs.declared.operations.Readiness.{Readiness}
 use Rattle.file_model.specs.declared.operations.Readiness.TheVariants.{Ready, NotReady, FileStep}
@@ -15,11 +14,11 @@ use Rattle.hybrid_model.specs.Tallies.{as_number}
 use Rattle.kernel_model.specs.Plans.{is_read}
 use Rattle.kernel_model.specs.Progress.{Progress, description_found, next_piece, offset_argument, stream_operation}
 use Rattle.mck_word.specs.Lists.{spliced}
-use Rattle.mck_word.specs.Maps.{at, entries, total}
+use Rattle.mck_word.specs.Maps.{at}
 use Rattle.std.proofs.Common.{ap, arith, length-append, length-drop, length-take, refl, sym, ◌∙◌}
 use Rattle.std.proofs.lemmas.Bool.Decides.{nat_tests}
 use Rattle.std.proofs.lemmas.List.{length-replicate}
-use Rattle.std.specs.Prelude.{Bool, List, None, Option, Some, cond, drop, false, length, min, nat_lt, option_map, pos, replicate, sum_by, take, true, ℕ, ◌&&◌, ◌++◌, ◌+◌, ◌-◌, ◌<◌, ◌==◌, ◌≡◌, ◌≤◌}
+use Rattle.std.specs.Prelude.{Bool, List, None, Option, Some, cond, drop, false, length, min, nat_lt, option_map, pos, replicate, take, true, ℕ, ◌&&◌, ◌++◌, ◌+◌, ◌-◌, ◌==◌, ◌≡◌, ◌≤◌}
 use Rattle.work_laws.specs.FilesAdd.{offset-less}
 use Rattle.work_laws.specs.KernelLeft.{console_left, file_left, files_left, pipe_left}
 use Rattle.work_laws.specs.NodeLeft.{total-change}

@@ -1,27 +1,25 @@
 -- What a trap adds to what is left to do, whatever it comes to.
 use Rattle.file_model.specs.Errno.{EAGAIN, ENOMEM, ENOSYS}
-use Rattle.file_model.specs.Files.{Files, share}
+use Rattle.file_model.specs.Files.{share}
 use Rattle.hybrid_laws.specs.Sums.{total-put}
 use Rattle.isa_model.specs.Memory.{may_access}
 use Rattle.isa_model.specs.Registers.{reg}
 use Rattle.isa_model.specs.declared.stops.Stop.{Stop}
 use Rattle.isa_model.specs.declared.stops.Stop.TheVariants.{Break, Ecall, Illegal, Misaligned, On, Fault as StopFault}
 use Rattle.kernel_model.specs.Calls.{local_call, one_of_calls}
-use Rattle.kernel_model.specs.CloneCalls.{CallDone, are_fork_flags, child_process, child_thread, clone, clone_or_fork, fork, forks, with_child}
+use Rattle.kernel_model.specs.CloneCalls.{CallDone, are_fork_flags, child_process, child_thread, clone, clone_or_fork, forks, with_child}
 use Rattle.kernel_model.specs.LocalCalls.{answers, refuses}
 use Rattle.kernel_model.specs.MemoryCalls.{Decision, Now, Reply, Round, decide}
-use Rattle.kernel_model.specs.Nodes.{Node, Thread, answered, change_thread, most_processes, process_of, set_does, set_pc, stop_in, thread_of}
-use Rattle.kernel_model.specs.Plans.{Delegated, Local, Phase, Plan, Unknown, Vm, plan}
-use Rattle.kernel_model.specs.Progress.{starting}
+use Rattle.kernel_model.specs.Nodes.{Node, answered, most_processes, process_of, set_pc, stop_in, thread_of}
+use Rattle.kernel_model.specs.Plans.{Delegated, Local, Plan, Unknown, Vm, plan}
 use Rattle.kernel_model.specs.Signals.{View, on_node, raised, signal_of_stop, store}
 use Rattle.kernel_model.specs.Traps.{Begins, Changes, Done, Forks, Trapped, arguments_of, cloned, decided, past_ecall, planned, trap, trap_of_stop}
-use Rattle.kernel_model.specs.declared.Change.{Change}
 use Rattle.kernel_model.specs.declared.Does.TheVariants.{InVm}
 use Rattle.mck_word.specs.Maps.{count}
 use Rattle.mck_word.specs.Words.{has_bit, little_endian, refused}
 use Rattle.mck_word.specs.declared.Access.TheVariants.{Write}
 use Rattle.mck_word.specs.declared.Regs.{Regs}
-use Rattle.std.proofs.Common.{ap, arith, refl, sym, ◌∙◌}
+use Rattle.std.proofs.Common.{ap, arith, refl}
 use Rattle.std.specs.Prelude.{Bool, List, None, Option, Some, cond, false, get_or, length, nat_le, nat_lt, pos, true, ℕ, ℤ, ◌+◌, ◌==◌, ◌≡◌, ◌≤◌}
 use Rattle.work_laws.specs.CallsAdd.{calls-add, clone-adds}
 use Rattle.work_laws.specs.KernelLeft.{Prices, node_left, of_process, of_thread, progress_left}

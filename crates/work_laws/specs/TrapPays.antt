@@ -1,21 +1,18 @@
 -- What a trap leaves to do at most, whatever it comes to: a call begins, a change of memory begins or is made, or a process is made.
-use Rattle.file_model.specs.Files.{share}
 use Rattle.hybrid_laws.specs.Sums.{total-put}
 use Rattle.kernel_model.specs.MemoryCalls.{answer_of_change, effect_of}
 use Rattle.kernel_model.specs.Nodes.{Node, Process, process_of, set_does}
 use Rattle.kernel_model.specs.OneKernel.{Active, Call, OneHere}
 use Rattle.kernel_model.specs.Progress.{Progress}
-use Rattle.kernel_model.specs.Signals.{Store, View, stored_all}
 use Rattle.kernel_model.specs.Steps.{one_effect, one_trap, one_trapped, one_view, set_break, set_status, with_node, with_view}
 use Rattle.kernel_model.specs.Traps.{Begins, Changes, Done, Forks, Trapped, trap}
 use Rattle.kernel_model.specs.declared.Change.{Change}
 use Rattle.kernel_model.specs.declared.Does.TheVariants.{Called}
-use Rattle.mck_word.specs.Maps.{at, put}
 use Rattle.std.proofs.Common.{ap, arith, refl}
 use Rattle.std.proofs.Math.Nat.{mul-le-mul_left}
 use Rattle.std.specs.Prelude.{None, false, ℕ, ◌*◌, ◌+◌, ◌≡◌, ◌≤◌}
 use Rattle.work_laws.specs.HereLess.{IsNew, OnePays}
-use Rattle.work_laws.specs.KernelLeft.{Prices, files_left, of_mark, own_calls_left, own_marks_left, progress_left, status_left}
+use Rattle.work_laws.specs.KernelLeft.{Prices, files_left, of_mark, own_calls_left, progress_left, status_left}
 use Rattle.work_laws.specs.NodeLeft.{Adds, adds-then, does-adds, process-adds}
 use Rattle.work_laws.specs.NodeSteps.{finishes-adds}
 use Rattle.work_laws.specs.PlansLeft.{most_call}

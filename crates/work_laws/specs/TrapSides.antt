@@ -15,15 +15,14 @@ use Rattle.hybrid_model.specs.Spaces.{after_effect}
 use Rattle.hybrid_model.specs.Tallies.{sum_rings}
 use Rattle.ikc_ring.specs.declared.Msg.TheVariants.{Request}
 use Rattle.kernel_model.specs.MemoryCalls.{answer_of_change, effect_of}
-use Rattle.kernel_model.specs.Nodes.{Node, is_there, process_of, set_does, thread_of}
+use Rattle.kernel_model.specs.Nodes.{is_there, process_of, thread_of}
 use Rattle.kernel_model.specs.Progress.{Progress}
 use Rattle.kernel_model.specs.Traps.{Begins, Changes, Done, Forks, Trapped, trap}
-use Rattle.kernel_model.specs.declared.Does.TheVariants.{Called}
 use Rattle.mck_word.specs.Maps.{Map, at, count, put, total}
 use Rattle.mck_word.specs.declared.Tid.{Tid}
 use Rattle.request_book.specs.declared.ReqState.TheVariants.{Posted}
 use Rattle.std.proofs.Common.{ap, arith, refl, ◌∙◌}
-use Rattle.std.specs.Prelude.{List, None, Option, Some, length, true, ℕ, ◌*◌, ◌+◌, ◌≡◌, ◌≤◌}
+use Rattle.std.specs.Prelude.{None, Option, Some, length, true, ℕ, ◌*◌, ◌+◌, ◌≡◌, ◌≤◌}
 use Rattle.work_laws.specs.FetchClear.{answers}
 use Rattle.work_laws.specs.KernelLeft.{Prices}
 use Rattle.work_laws.specs.Late.{rings-late}
@@ -32,7 +31,7 @@ use Rattle.work_laws.specs.NewSides.{new-left}
 use Rattle.work_laws.specs.SameFiles.{SameFiles, same-files}
 use Rattle.work_laws.specs.TrapAdds.{TrapAdds, trap-adds}
 use Rattle.work_laws.specs.Weights.{any_change, of_clear, of_message, of_request, of_side, sides_left}
-use Rattle.work_laws.specs.Wholes.{FewRequests, sides-any}
+use Rattle.work_laws.specs.Wholes.{sides-any}
 
 -- with so many processes before
 abbrev pub trap_sides : ℕ → ℕ → ℕ

@@ -1,4 +1,4 @@
--- What is left to do for the requests, messages, faults, pins and rounds of the processes, as a number. What a call's own steps count stands in CallsLeft.
+-- What is left to do for the requests, messages, faults, pins and rounds of the processes, as a number. What the calls, threads and processes count stands in KernelLeft.
 use Rattle.ikc_ring.specs.declared.Msg.TheVariants as Messages
 use Rattle.request_book.specs.declared.ReqState.TheVariants as States
 use Rattle.clear_rounds.specs.declared.Phase.{Phase}
@@ -102,6 +102,10 @@ of_phase Acked = 1
 abbrev pub of_round : ℕ → Option Round → ℕ
 of_round workers None = of_clear workers + 4
 of_round workers (Some r) = of_phase r.0
+
+-- what the end of a round raises at most
+abbrev pub of_change : ℕ → ℕ
+of_change workers = of_clear workers + 4 + any_change * workers
 
 -- ---- a side, and all sides
 

@@ -1,0 +1,5 @@
+use Rattle.atomic_laws.specs.AddingEvents.{stretch-adds}
+use Rattle.atomic_laws.proofs.no_addition_is_lost.Goals as goal
+
+pub returns : goal.returns
+returns c = λ job imgs before during p a is prepared legal only. stretch-adds job imgs before during p a is prepared legal only

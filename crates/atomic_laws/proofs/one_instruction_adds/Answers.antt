@@ -1,0 +1,8 @@
+use Rattle.atomic_laws.specs.Adding.{counts, instr-adds}
+use Rattle.atomic_laws.proofs.one_instruction_adds.Goals as goal
+
+pub returns-clause-adds : goal.returns-clause-adds
+returns-clause-adds c = λ a r m is whole only. instr-adds a is m whole r only
+
+pub returns-clause-counts : goal.returns-clause-counts
+returns-clause-counts c = λ a r m i is amoadd. counts a r m i is amoadd

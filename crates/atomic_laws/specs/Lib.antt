@@ -1,0 +1,5 @@
+pub mod Additions
+pub mod Doublewords
+pub mod Adding
+pub mod AddingSteps
+pub mod AddingEvents

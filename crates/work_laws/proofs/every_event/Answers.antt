@@ -1,0 +1,9 @@
+use Rattle.work_laws.specs.Allowance.{lessens-always}
+use Rattle.work_laws.specs.EachLessens.{event-lessens}
+use Rattle.work_laws.proofs.every_event.Goals as goal
+
+pub returns-clause-lessens : goal.returns-clause-lessens
+returns-clause-lessens c = λ most pair e coherent whole workers few allowed. event-lessens most pair coherent whole workers few e allowed
+
+pub returns-clause-always : goal.returns-clause-always
+returns-clause-always c = λ most job imgs journal e prepared legal few allowed. lessens-always most job imgs journal e prepared legal few allowed
