@@ -1,0 +1,9 @@
+pub mod Stores
+pub mod Doing
+pub mod Pointing
+pub mod Begun
+pub mod Delivering
+pub mod Acting
+pub mod Dispatched
+pub mod Behind
+pub mod Trapping

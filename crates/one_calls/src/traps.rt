@@ -1,0 +1,109 @@
+// Traps of stopped threads that are local.
+ghost use Rattle.file_model.specs.Files.{Files};
+ghost use Rattle.isa_model.specs.Registers.{reg};
+ghost use Rattle.isa_model.specs.declared.stops.Stop.TheVariants as stops;
+ghost use Rattle.kernel_model.specs.Nodes.{thread_of};
+ghost use Rattle.kernel_model.specs.Plans as plans;
+ghost use Rattle.kernel_model.specs.Steps.{one_trap, one_trapped, one_view};
+ghost use Rattle.kernel_model.specs.Traps.{arguments_of as arguments_in, past_ecall, planned, trap_of_stop};
+ghost use Rattle.lwk_node.specs.Shown.{node_of};
+ghost use Rattle.one_calls.specs.Here.{Rest, here};
+ghost use Rattle.one_calls.specs.LocalTraps.{calls_fork, names_fork, names_local, stops_locally, traps_locally};
+ghost use Rattle.one_calls.specs.Resting.{MayClone, MayRest};
+ghost use Rattle.std.specs.Prelude.{◌≡◌, Some, true, ℕ};
+
+use crate::calls::{CLONE, arguments_of, call_number, calls_locally, raises, refuses_call};
+use crate::forking::are_fork_flags;
+use call_plan::{Plan, plan};
+use isa_model::Stop;
+use kernel_model::Does;
+use lwk_node::Node;
+use mck_word::{Regs, Tid};
+use one_memory::PageRows;
+
+/// Whether the call that the registers name is a fork.
+pub fn names_fork(regs: &Regs) -> bool
+    ensures { result ≡ names_fork regs.now }
+{
+    call_number(regs) == CLONE && are_fork_flags(arguments_of(regs)[0])
+}
+
+/// Whether the trap of the thread is a fork.
+pub fn calls_fork(node: &Node, t: Tid) -> bool
+    ensures { (files : Files) → result ≡ calls_fork (node_of node.now files) t.0 }
+{
+    match node.does(t) {
+        Does::Stopped(Stop::Ecall) => names_fork(&node.regs(t)),
+        _ => false,
+    }
+}
+
+/// Whether the call that the registers name isn't known, or is local and no fork.
+fn names_local(regs: &Regs) -> bool
+    ensures { result ≡ names_local regs.now }
+{
+    match plan(call_number(regs), &arguments_of(regs)) {
+        Plan::Unknown => true,
+        Plan::Local => !names_fork(regs),
+        _ => false,
+    }
+}
+
+/// Whether the trap of the thread is local, and no fork.
+pub fn traps_locally(node: &Node, t: Tid) -> bool
+    ensures { (files : Files) → result ≡ traps_locally (node_of node.now files) t.0 }
+{
+    match node.does(t) {
+        Does::Stopped(Stop::On) => false,
+        Does::Stopped(Stop::Ecall) => names_local(&node.regs(t)),
+        Does::Stopped(_) => true,
+        _ => false,
+    }
+}
+
+/// The call that the registers of the thread name, where it isn't known, or is local and no fork.
+fn call(node: &mut Node, memory: &mut PageRows, t: Tid, regs: &Regs)
+    requires local { names_local regs.now ≡ true }
+    requires rest { reg regs.now 17 ≡ 98 → MayRest node.old t.0 }
+    requires clone { reg regs.now 17 ≡ 220 → MayClone node.old t.0 }
+    ensures { (p : ℕ) (r : Rest) → here node.new memory.new.map r ≡ (let h = here node.old memory.old.map r in
+        one_trapped p t.0 (planned t.0 h.free regs.now (past_ecall t.0 (one_view h)) (plans.plan (reg regs.now 17) (arguments_in regs.now))) h) }
+{
+    let number = call_number(regs);
+    let args = arguments_of(regs);
+    match plan(number, &args) {
+        Plan::Unknown => refuses_call(node, t),
+        Plan::Local => calls_locally(node, memory, t, number, &args),
+        Plan::Memory | Plan::Delegated(_) => unreachable!(),
+    }
+}
+
+/// The local trap of a thread that stopped so.
+fn trap_of_stop(node: &mut Node, memory: &mut PageRows, t: Tid, stop: Stop)
+    requires local { (files : Files) → stops_locally (thread_of (node_of node.old files) t.0).regs (Some stop) ≡ true }
+    requires rest { (files : Files) → reg (thread_of (node_of node.old files) t.0).regs 17 ≡ 98 → MayRest node.old t.0 }
+    requires clone { (files : Files) → reg (thread_of (node_of node.old files) t.0).regs 17 ≡ 220 → MayClone node.old t.0 }
+    ensures { (p : ℕ) (r : Rest) → here node.new memory.new.map r ≡ (let h = here node.old memory.old.map r in
+        one_trapped p t.0 (trap_of_stop t.0 h.free (one_view h) (Some stop)) h) }
+{
+    match stop {
+        Stop::Ecall => {
+            let regs = node.regs(t);
+            call(node, memory, t, &regs);
+        }
+        stop => raises(node, t, stop),
+    }
+}
+
+/// The trap of a thread, where it is local and no fork.
+pub fn trap(node: &mut Node, memory: &mut PageRows, t: Tid)
+    requires local { (files : Files) → traps_locally (node_of node.old files) t.0 ≡ true }
+    requires rest { (files : Files) → reg (thread_of (node_of node.old files) t.0).regs 17 ≡ 98 → MayRest node.old t.0 }
+    requires clone { (files : Files) → reg (thread_of (node_of node.old files) t.0).regs 17 ≡ 220 → MayClone node.old t.0 }
+    ensures { (p : ℕ) (r : Rest) → here node.new memory.new.map r ≡ one_trap p t.0 (here node.old memory.old.map r) }
+{
+    let Does::Stopped(stop) = node.does(t) else {
+        return;
+    };
+    trap_of_stop(node, memory, t, stop);
+}
