@@ -4,7 +4,6 @@ use Rattle.kernel_model.specs.Calls.{one_of_calls}
 use Rattle.kernel_model.specs.CloneCalls.{wait4}
 use Rattle.kernel_model.specs.Signals.{View}
 use Rattle.lwk_node.specs.declared.tables.Node.{Node}
-use Rattle.lwk_side.specs.Built.{is_built_call}
 use Rattle.lwk_views.proofs.Doing.{did_as}
 use Rattle.lwk_views.specs.Views.{Did, seen}
 use Rattle.mck_word.specs.Maps.{Map}
@@ -17,10 +16,6 @@ pub by-number : (rows : Map Row) (before after : Node) (pages left : List (List 
     → Did rows before pages after left word → Did rows before pages after left (one_of_calls t number a)
 by-number rows before after pages left t number n a word e h d =
     did_as rows pages before after left word (one_of_calls t number a) (λ files. ap (λ k. one_of_calls t k a (seen rows before pages files)) e ∙ h (seen rows before pages files)) d
-
--- a number whose call isn't built is another
-pub other : (number k : ℕ) → is_built_call k ≡ false → is_built_call number ≡ true → (number == k) ≡ false
-other number k not-built built = ne_eqb number k (λ e. absurd (grind (arith, sym not-built ∙ ap is_built_call (sym e) ∙ built)))
 
 -- a call with none of the numbers before is the wait for a child
 pub last-call : (t number : ℕ) (a : ℕ → ℕ) (v : View)

@@ -1,4 +1,4 @@
--- Traps that are built, by their stops and plans.
+-- Traps by their stops and plans.
 use Rattle.hybrid_model.specs.Lwk.{after_trap, ran_last, trapped, view_here}
 use Rattle.hybrid_model.specs.Pairs.{Here}
 use Rattle.kernel_model.specs.Nodes.{stop_in, thread_of}
@@ -7,7 +7,6 @@ use Rattle.kernel_model.specs.Signals.{View, on_node, raised, signal_of_stop}
 use Rattle.kernel_model.specs.Traps.{Done, cloned, trap, trap_of_stop}
 use Rattle.isa_model.specs.declared.stops.Stop.{Stop}
 use Rattle.isa_model.specs.declared.stops.Stop.TheVariants.{Break, Ecall, Fault, Illegal, Misaligned, On}
-use Rattle.lwk_side.specs.Built.{is_built_stop}
 use Rattle.std.proofs.Common.{ap, arith, refl, sym, ◌≡◌}
 use Rattle.std.specs.Prelude.{List, Option, Some, false, get_or, length, true, ℕ, ◌==◌, ◌≤◌}
 
@@ -17,23 +16,14 @@ pub local-done : (t free number : ℕ) (arguments : List ℕ) (v : View) → (nu
 unfolding local_call
 local-done t free number arguments v other = rw other refl
 
--- a stop that is built and no call raises its signal
-pub raises-signal : (t free number : ℕ) (v : View) (stop : Stop) → is_built_stop number (Some stop) ≡ true → (stop ≡ Ecall → false ≡ true)
-    → trap_of_stop t free v (Some stop) ≡ Done (on_node (raised t (signal_of_stop stop)) v)
-raises-signal t free number v On e n = refl
-raises-signal t free number v Ecall e n = absurd (grind (arith, n refl))
-raises-signal t free number v Break e n = refl
-raises-signal t free number v Illegal e n = refl
-raises-signal t free number v Misaligned e n = refl
-raises-signal t free number v (Fault lack) e n = refl
-
-pub signal-there : (number : ℕ) (stop : Stop) → is_built_stop number (Some stop) ≡ true → (stop ≡ Ecall → false ≡ true) → 1 ≤ signal_of_stop stop
-signal-there number On e n = absurd (grind (arith, e))
-signal-there number Ecall e n = absurd (grind (arith, n refl))
-signal-there number Break e n = omega arith
-signal-there number Illegal e n = omega arith
-signal-there number Misaligned e n = omega arith
-signal-there number (Fault lack) e n = omega arith
+-- a stop that is no call raises its signal
+pub raises-signal : (t free : ℕ) (v : View) (stop : Stop) → (stop ≡ Ecall → false ≡ true) → trap_of_stop t free v (Some stop) ≡ Done (on_node (raised t (signal_of_stop stop)) v)
+raises-signal t free v On n = refl
+raises-signal t free v Ecall n = absurd (grind (arith, n refl))
+raises-signal t free v Break n = refl
+raises-signal t free v Illegal n = refl
+raises-signal t free v Misaligned n = refl
+raises-signal t free v (Fault lack) n = refl
 
 -- the trap of a thread that is stopped so
 pub after-stop : (p t : ℕ) (h : Here) (stop : Stop) → stop_in (thread_of h.node t).does ≡ Some stop

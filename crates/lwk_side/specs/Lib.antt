@@ -1,5 +1,5 @@
 pub mod Acks
-pub mod Built
+pub mod Begins
 pub mod Cloning
 pub mod Changing
 pub mod Forked

@@ -4,7 +4,6 @@ ghost use Rattle.ikc_channel.specs.declared.Channel.{Channel as channels};
 ghost use Rattle.kernel_model.specs.Calls.{local_call};
 ghost use Rattle.kernel_model.specs.CloneCalls.{clone};
 ghost use Rattle.kernel_model.specs.Traps.{cloned, past_ecall};
-ghost use Rattle.lwk_side.specs.Built.{is_built_call};
 ghost use Rattle.lwk_side.specs.Cloning.{MayClone, is_fork};
 ghost use Rattle.lwk_side.specs.Resting.{MayRest};
 ghost use Rattle.lwk_side.specs.Shown.{Rest, here_of};
@@ -46,7 +45,6 @@ impl Lwk {
         requires rest { number ≡ 98 → MayRest self.old.node t.0 }
         requires clone { number ≡ 220 → MayClone self.old.node t.0 }
         requires no_fork { is_fork number (slice_index args.now 0) ≡ false }
-        requires built { is_built_call number ≡ true }
         ensures after { (c : channels) (r : Rest) (p free : ℕ) → here_of self.new (T.rows task.now.space.table) task.now c r
             ≡ (let h = here_of self.old (T.rows task.now.space.table) task.now c r in
             trapped p t.0 (cloned (local_call t.0 free number args.now (past_ecall t.0 (view_here h)))) h) }

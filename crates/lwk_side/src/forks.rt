@@ -75,6 +75,7 @@ impl Lwk {
             ≡ (let h = here_of self.old (T.rows task.now.space.table) task.now c r in
             trapped p.0 t.0 (cloned (forks t.0 (slice_index args.now 0) (slice_index args.now 1) (slice_index args.now 2) (slice_index args.now 3) (slice_index args.now 4) (past_ecall t.0 (view_here h)))) h) }
         ensures cores { self.new.cores ≡ self.old.cores }
+        ensures rings { self.new.rings ≡ self.old.rings }
         ensures frames { KeepsFrames self.old self.new }
     {
         self.node.past_ecall(t);
@@ -90,6 +91,7 @@ impl Lwk {
         ensures after { (c : channels) (r : Rest) → here_of self.new (T.rows task.now.space.table) task.now c r
             ≡ (let h = here_of self.old (T.rows task.now.space.table) task.now c r in with_view (answers t.0 answer (past_ecall t.0 (view_here h))) h) }
         ensures cores { self.new.cores ≡ self.old.cores }
+        ensures rings { self.new.rings ≡ self.old.rings }
         ensures frames { KeepsFrames self.old self.new }
     {
         self.node.past_ecall(t);
@@ -114,6 +116,7 @@ impl Lwk {
         requires copy { HasCopyRoom T.rows T.has_room task.now.space child.old }
         ensures event { (c : channels) (r : Rest) → record (here_of self.new (T.rows task.now.space.table) task.now c (shared p.0 result r)) { born = born_of self.new.rings (T.rows child.new.table) result }
             ≡ after_trap p.0 t.0 (here_of self.old (T.rows task.now.space.table) task.now c r) }
+        ensures rings { self.new.rings ≡ self.old.rings }
         ensures frames { KeepsFrames self.old self.new }
     {
         match self.fork_refusal(&task.space) {

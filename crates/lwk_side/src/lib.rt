@@ -28,4 +28,5 @@ mod waits;
 
 pub use answers::{answer_to, may_answer};
 pub use kernel::{Last, Lwk};
+pub use replies::caller_of;
 pub use task::{Caller, Noted, Task};

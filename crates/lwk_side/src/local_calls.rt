@@ -1,22 +1,27 @@
 // What a trap makes of the node and the frames, where it is done at once.
 ghost use Rattle.file_model.specs.Errno.{ENOSYS};
+ghost use Rattle.file_model.specs.Files.{Files};
 ghost use Rattle.isa_model.specs.Registers.{reg};
 ghost use Rattle.kernel_model.specs.Calls.{one_of_calls};
 ghost use Rattle.kernel_model.specs.LocalCalls.{answers};
 ghost use Rattle.kernel_model.specs.Signals.{on_node, raised, signal_of_stop};
 ghost use Rattle.kernel_model.specs.Traps.{arguments_of};
+ghost use Rattle.lwk_node.specs.Room.{KeepsRoom};
+ghost use Rattle.lwk_node.specs.Shown.{node_of};
 ghost use Rattle.lwk_side.specs.Resting.{MayRest};
 ghost use Rattle.lwk_tables.specs.Rows.{FramesApart, FramesIn};
 ghost use Rattle.lwk_views.specs.Views.{Did, DidAlone};
 ghost use Rattle.mck_word.specs.Words.{refused};
-ghost use Rattle.std.specs.Prelude.{◌≡◌, ◌≤◌, get_or, true};
+ghost use Rattle.std.specs.Prelude.{◌≡◌, ◌≤◌, get_or};
 
 use call_plan::arguments::int;
 use frame_mem::FrameMem;
 use isa_model::Stop;
+use kernel_model::Does;
 use lwk_node::Node;
+use lwk_signals::has;
 use lwk_tables::Space;
-use mck_word::{Regs, Tid};
+use mck_word::{End, Regs, Tid};
 use page_map::PageTable;
 
 // The negated error number of a call that isn't known.
@@ -52,12 +57,38 @@ fn signal_of(stop: Stop) -> u32
     }
 }
 
+/// The thread raises number 0, which is no signal: it is masked, ignored and pending as signal 1 is.
+fn raises_none(node: &mut Node, t: Tid)
+    ensures node { (files : Files) → node_of node.new files ≡ raised t.0 0 (node_of node.old files) }
+    ensures room { KeepsRoom node.old node.new }
+{
+    let p = node.process_of_thread(t);
+    if has(1, node.mask(t)) || node.ignores(p, 1) {
+        node.set_does(t, Does::Ready);
+        node.dies(p, End::Killed(0));
+    } else {
+        node.raised(t, 1);
+    }
+}
+
+/// The thread raises the signal.
+fn raises_number(node: &mut Node, t: Tid, signal: u32)
+    requires { signal ≤ 64 }
+    ensures node { (files : Files) → node_of node.new files ≡ raised t.0 signal (node_of node.old files) }
+    ensures room { KeepsRoom node.old node.new }
+{
+    if signal == 0 {
+        raises_none(node, t);
+    } else {
+        node.raised(t, signal);
+    }
+}
+
 /// The stop of the thread raises its signal.
 pub fn raises(node: &mut Node, t: Tid, stop: Stop)
-    requires { 1 ≤ signal_of_stop stop }
     ensures { DidAlone node.old node.new (on_node (raised t.0 (signal_of_stop stop))) }
 {
-    node.raised(t, signal_of(stop));
+    raises_number(node, t, signal_of(stop));
 }
 
 /// A call that isn't known is refused.

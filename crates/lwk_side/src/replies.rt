@@ -24,7 +24,7 @@ fn calling<'a>(rows: &'a [(u64, Caller)], q: Req) -> Option<&'a (u64, Caller)>
 }
 
 /// The thread whose call has the number. A process has at most sixteen callers.
-fn caller_of(callers: &Rows<Caller>, q: Req) -> Option<Tid>
+pub fn caller_of(callers: &Rows<Caller>, q: Req) -> Option<Tid>
     requires { CallersFit callers.now.map }
     ensures is { option_map (λ t. t.0) result ≡ caller_of (each shown_caller callers.now.map) q.0 }
     ensures there { IfSome result (λ t. IsSome (at callers.now.map t.0)) }

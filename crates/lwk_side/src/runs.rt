@@ -1,6 +1,6 @@
 // Instructions of a thread.
 ghost use Rattle.file_model.specs.Files.{Files};
-ghost use Rattle.hybrid_model.specs.Lwk.{run};
+ghost use Rattle.hybrid_model.specs.Lwk.{executed_in_run, run};
 ghost use Rattle.isa_model.specs.declared.stops.Stop.{Stop as stops};
 ghost use Rattle.kernel_model.specs.Nodes.{has_thread};
 ghost use Rattle.kernel_model.specs.Traps.{does_after};
@@ -32,7 +32,7 @@ fn does_after(stop: Stop) -> Does
 }
 
 impl Lwk {
-    /// The thread executes at most `most` instructions, up to and with the first that stops.
+    /// The thread executes at most `most` instructions, up to and with the first that stops, and their number is answered.
     pub fn run<T: PageTable>(
         &mut self,
         task: &Task<T>,
@@ -40,7 +40,7 @@ impl Lwk {
         t: Tid,
         most: u32,
         known: &mut KnownWords,
-    )
+    ) -> u32
         requires sound { IsSound self.old (T.rows task.now.space.table) }
         requires wired { Wired self.old channel.now.to_linux }
         requires lives { (files : Files) → has_thread (node_of self.old.node files) t.0 ≡ true }
@@ -48,6 +48,7 @@ impl Lwk {
         requires limit { instructions_in self.old.node.processes.map + most < 2 ^ 64 }
         ensures event { (r : Rest) → here_of self.new (T.rows task.now.space.table) task.now channel.now r
             ≡ run t.0 most (here_of self.old (T.rows task.now.space.table) task.now channel.now r) }
+        ensures executed { (r : Rest) → result ≡ executed_in_run t.0 most (here_of self.old (T.rows task.now.space.table) task.now channel.now r) }
         ensures frames { KeepsFrames self.old self.new }
     {
         let mut regs = self.node.regs(t);
@@ -64,5 +65,6 @@ impl Lwk {
             .run_over(t, regs, does_after(stop), u64::from(count));
         self.ran_last(t);
         a_run_is_the_event();
+        count
     }
 }

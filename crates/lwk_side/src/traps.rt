@@ -7,14 +7,14 @@ ghost use Rattle.isa_model.specs.Registers.{reg};
 ghost use Rattle.isa_model.specs.declared.stops.Stop.TheVariants as stops;
 ghost use Rattle.kernel_model.specs.Calls.{one_of_calls};
 ghost use Rattle.kernel_model.specs.LocalCalls.{answers};
-ghost use Rattle.kernel_model.specs.Nodes.{process_of, thread_of};
+ghost use Rattle.kernel_model.specs.Nodes.{is_stopped, process_of, thread_of};
 ghost use Rattle.kernel_model.specs.Plans as plans;
 ghost use Rattle.kernel_model.specs.Plans.{Phase};
 ghost use Rattle.kernel_model.specs.Progress.{starting};
 ghost use Rattle.kernel_model.specs.Signals.{on_node, raised, signal_of_stop};
 ghost use Rattle.kernel_model.specs.Traps.{Begins, arguments_of as arguments_in, past_ecall, planned, trap, trap_of_stop};
 ghost use Rattle.lwk_node.specs.Shown.{node_of};
-ghost use Rattle.lwk_side.specs.Built.{begins_at, begins_call, is_built_call, is_built_stop, is_built_trap, names_delegated};
+ghost use Rattle.lwk_side.specs.Begins.{begins_at, begins_call, names_delegated};
 ghost use Rattle.lwk_side.specs.Changing.{HasTrappedRoom, HeapFits};
 ghost use Rattle.lwk_side.specs.Cloning.{MayClone, calls_fork, forks_at, names_fork};
 ghost use Rattle.lwk_side.specs.Resting.{MayRest};
@@ -35,39 +35,10 @@ use kernel_model::Does;
 use mck_word::{Pid, Regs, Tid};
 use page_map::PageTable;
 
-/// Whether the call is built: the list of those that come later stands in specs/Built.
-fn is_built_call(_number: u64) -> bool
-    ensures { result ≡ is_built_call _number }
-{
-    true
-}
-
-fn is_built_stop(number: u64, stop: Stop) -> bool
-    ensures { result ≡ is_built_stop number (Some stop) }
-{
-    match stop {
-        Stop::On => false,
-        Stop::Ecall => is_built_call(number),
-        _ => true,
-    }
-}
-
 impl Lwk {
-    /// Whether the trap of the thread is built.
-    pub fn is_built_trap(&self, t: Tid) -> bool
-        ensures { (files : Files) → result ≡ is_built_trap (node_of self.now.node files) t.0 }
-    {
-        let number = call_number(&self.node.regs(t));
-        match self.node.does(t) {
-            Does::Stopped(stop) => is_built_stop(number, stop),
-            _ => false,
-        }
-    }
-
     /// The stop of the thread raises its signal.
     fn raises_signal<T: PageTable>(&mut self, task: &Task<T>, t: Tid, stop: Stop)
         requires sound { IsSound self.old (T.rows task.now.space.table) }
-        requires signal { 1 ≤ signal_of_stop stop }
         ensures after { (c : channels) (r : Rest) → here_of self.new (T.rows task.now.space.table) task.now c r
             ≡ (let h = here_of self.old (T.rows task.now.space.table) task.now c r in
             with_view (on_node (raised t.0 (signal_of_stop stop)) (view_here h)) h) }
@@ -160,7 +131,6 @@ impl Lwk {
         requires rest { reg regs.now 17 ≡ 98 → MayRest self.old.node t.0 }
         requires clone { reg regs.now 17 ≡ 220 → MayClone self.old.node t.0 }
         requires no_fork { names_fork regs.now ≡ false }
-        requires built { is_built_call (reg regs.now 17) ≡ true }
         requires own { (files : Files) → (thread_of (node_of self.old.node files) t.0).process ≡ p.0 }
         requires heap { (files : Files) → HeapFits (process_of (node_of self.old.node files) p.0) }
         requires change { (files : Files) → HasTrappedRoom (T.has_room task.old.space.table) task.old.space.areas.spare p.0
@@ -200,7 +170,6 @@ impl Lwk {
         requires rest { (files : Files) → reg (thread_of (node_of self.old.node files) t.0).regs 17 ≡ 98 → MayRest self.old.node t.0 }
         requires clone { (files : Files) → reg (thread_of (node_of self.old.node files) t.0).regs 17 ≡ 220 → MayClone self.old.node t.0 }
         requires no_fork { (files : Files) → forks_at (thread_of (node_of self.old.node files) t.0).regs (Some stop) ≡ false }
-        requires built { (files : Files) → is_built_stop (reg (thread_of (node_of self.old.node files) t.0).regs 17) (Some stop) ≡ true }
         requires own { (files : Files) → (thread_of (node_of self.old.node files) t.0).process ≡ p.0 }
         requires heap { (files : Files) → HeapFits (process_of (node_of self.old.node files) p.0) }
         requires change { (files : Files) → HasTrappedRoom (T.has_room task.old.space.table) task.old.space.areas.spare p.0
@@ -221,7 +190,7 @@ impl Lwk {
         }
     }
 
-    /// The trap of a stopped thread of the process that is no fork, and whose kind is one that is built.
+    /// The trap of a stopped thread of the process that is no fork.
     pub fn trap<T: PageTable>(&mut self, task: &mut Task<T>, channel: &mut Channel, p: Pid, t: Tid)
         requires sound { IsSound self.old (T.rows task.old.space.table) }
         requires wired { Wired self.old channel.old.to_linux }
@@ -232,7 +201,7 @@ impl Lwk {
         requires rest { (files : Files) → reg (thread_of (node_of self.old.node files) t.0).regs 17 ≡ 98 → MayRest self.old.node t.0 }
         requires clone { (files : Files) → reg (thread_of (node_of self.old.node files) t.0).regs 17 ≡ 220 → MayClone self.old.node t.0 }
         requires no_fork { (files : Files) → calls_fork (node_of self.old.node files) t.0 ≡ false }
-        requires built { (files : Files) → is_built_trap (node_of self.old.node files) t.0 ≡ true }
+        requires stopped { (files : Files) → is_stopped (thread_of (node_of self.old.node files) t.0).does ≡ true }
         requires own { (files : Files) → (thread_of (node_of self.old.node files) t.0).process ≡ p.0 }
         requires heap { (files : Files) → HeapFits (process_of (node_of self.old.node files) p.0) }
         requires change { (files : Files) → HasTrappedRoom (T.has_room task.old.space.table) task.old.space.areas.spare p.0

@@ -4,6 +4,8 @@
 #![tactic(auto)]
 
 #[cfg(test)]
+mod forks;
+#[cfg(test)]
 mod guests;
 #[cfg(test)]
 mod outside_faults;

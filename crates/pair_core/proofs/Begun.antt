@@ -2,23 +2,24 @@
 use Rattle.file_model.specs.Files.{Files}
 use Rattle.lwk_node.specs.Shown.{node_of}
 use Rattle.lwk_node.specs.declared.tables.Node.{Node}
+use Rattle.hybrid_laws.specs.Tests.{both}
 use Rattle.hybrid_model.specs.Lwk.{after_trap, begin_call, trapped, view_here}
 use Rattle.hybrid_model.specs.Pairs.{Here, ring_of}
 use Rattle.hybrid_model.specs.Rings.{ring}
 use Rattle.isa_model.specs.Registers.{reg}
 use Rattle.isa_model.specs.declared.stops.Stop.{Stop}
 use Rattle.isa_model.specs.declared.stops.Stop.TheVariants.{Break, Ecall, Illegal, Misaligned, On, Fault}
-use Rattle.kernel_model.specs.Nodes.{stop_in, thread_of}
+use Rattle.kernel_model.specs.Nodes.{has_thread, is_living, is_stopped, stop_in, thread_of}
 use Rattle.kernel_model.specs.Plans.{Delegated, Local, Phase, Plan, Unknown, Vm, plan}
 use Rattle.kernel_model.specs.Progress.{starting}
 use Rattle.kernel_model.specs.Signals.{View}
-use Rattle.kernel_model.specs.Traps.{Begins, Trapped, arguments_of, past_ecall, planned, trap, trap_of_stop}
-use Rattle.lwk_side.specs.Built.{begins_at, begins_call, is_delegated}
+use Rattle.kernel_model.specs.Traps.{Begins, Trapped, arguments_of, may_trap, past_ecall, planned, trap, trap_of_stop}
+use Rattle.lwk_side.specs.Begins.{begins_at, begins_call, is_delegated}
 use Rattle.mck_word.specs.declared.Regs.{Regs}
 use Rattle.pair_core.proofs.KernelFacts.{post-longer}
 use Rattle.pair_core.proofs.Posting.{Posts}
 use Rattle.std.proofs.Common.{ap, arith, refl, ◌∙◌}
-use Rattle.std.specs.Prelude.{List, None, Option, Some, length, true, ℕ, ◌<◌, ◌≡◌}
+use Rattle.std.specs.Prelude.{List, None, Option, Some, length, true, ℕ, ◌&&◌, ◌<◌, ◌≡◌}
 
 module _ (t free : ℕ) (v : View) where
   abbrev regs : Regs
@@ -60,3 +61,10 @@ begun-posts p t h none e below =
 pub begins-any : (n : Node) (t : ℕ) (files other : Files) → begins_call (node_of n files) t ≡ true → begins_call (node_of n other) t ≡ true
 unfolding node_of
 begins-any n t files other e = e
+
+-- a thread that may trap is stopped, whatever the files are
+pub stopped-any : (n : Node) (t : ℕ) (files other : Files) → may_trap (node_of n files) t ≡ true → is_stopped (thread_of (node_of n other) t).does ≡ true
+unfolding node_of
+stopped-any n t files other e =
+    let x = thread_of (node_of n files) t in
+    (both (has_thread (node_of n files) t) (is_stopped x.does) (both (has_thread (node_of n files) t && is_stopped x.does) (is_living (node_of n files) x.process) e).0).1

@@ -18,3 +18,4 @@ pub mod MayKernel
 pub mod Sleepers
 pub mod Clones
 pub mod Memory
+pub mod Begins

@@ -1,4 +1,4 @@
--- The processes of the lightweight kernel's events, what of these is built, and the memory that they need.
+-- The processes of the lightweight kernel's events, and the memory that they need.
 use Rattle.file_model.specs.Files.{Files}
 use Rattle.hybrid_laws.specs.LinuxHolds.{is_of_linux}
 use Rattle.hybrid_model.specs.Events.{of_thread, process_of_event}
@@ -11,16 +11,14 @@ use Rattle.kernel_model.specs.Nodes.{Node, change_in, process_of, thread_of}
 use Rattle.kernel_model.specs.Traps.{trap}
 use Rattle.lwk_node.specs.Shown.{node_of}
 use Rattle.lwk_side.specs.Acks.{IfAck}
-use Rattle.lwk_side.specs.Built.{is_built_trap}
 use Rattle.lwk_side.specs.Changing.{HasAckRoom, HasTrappedRoom, changing_in}
-use Rattle.lwk_side.specs.Cloning.{calls_fork}
 use Rattle.lwk_tables.specs.Lacks.{memory}
 use Rattle.lwk_views.specs.Views.{seen}
 use Rattle.mck_word.specs.Maps.{Map, at}
 use Rattle.mck_word.specs.declared.PageRange.{PageRange}
 use Rattle.pair_core.specs.declared.parts.Parts.{Parts}
 use Rattle.pair_core.specs.declared.parts.Side.{Side}
-use Rattle.std.specs.Prelude.{Bool, List, None, Option, Some, cond, false, length, not, true, ℕ, ◌&&◌, ◌+◌, ◌<◌, ◌^◌, ◌≡◌, ◌≤◌, ◌∷◌}
+use Rattle.std.specs.Prelude.{Bool, List, None, Option, Some, cond, false, length, true, ℕ, ◌+◌, ◌<◌, ◌^◌, ◌≡◌, ◌≤◌, ◌∷◌}
 
 -- the process of an event of the lightweight kernel
 abbrev pub kernel_process : Node → Event → Option ℕ
@@ -64,7 +62,3 @@ module _ {T F : Type 0} (rows : T → Map Row) (has_room : T → List PageRange 
   HasKernelRoom files (Intake p) x = (s : Side T) → at x.sides.map p.0 ≡ Some s → HasRoundRoom x p.0 s
   HasKernelRoom files (BeginVm t) x = HasCount x (of_thread (node_of x.lwk.node (files x.files)) t.0)
   HasKernelRoom files _ x = Unit {0}
-
--- the trap of the thread is built, and it is no fork
-abbrev pub is_built_here : Node → ℕ → Bool
-is_built_here node t = is_built_trap node t && not (calls_fork node t)

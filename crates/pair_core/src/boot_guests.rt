@@ -74,7 +74,7 @@ pub fn put_guest(node: &mut Node, number: u32, line: &GuestLine, image: &Image)
     node.begin_thread(Pid(number), Tid(number), regs, SigSet(0), 0);
 }
 
-/// The side of a guest that has this space.
+/// The side of a new process that has this space.
 pub fn guest_side<T: PageTable + Drop>(
     alloc: Global,
     space: Space<T>,
@@ -84,6 +84,7 @@ pub fn guest_side<T: PageTable + Drop>(
     requires { workers ≤ 4 }
     ensures side { IfOk result (λ s. shown_side T.rows s ≡ record (sides.new_side rings) { lwk = record no_lwk { table = T.rows space.table } }) }
     ensures rings { IfOk result (λ s. Takes (49 + workers) s.channel) }
+    ensures space { IfOk result (λ s. s.task.space ≡ space) }
 {
     let channel = Channel::new(alloc, rings, ring_capacity(workers))?;
     Ok(Side {

@@ -8,7 +8,6 @@ ghost use Rattle.kernel_model.specs.OneKernel.{boot_files as files_of_job, guest
 ghost use Rattle.lwk_node.specs.Shown.{node_of};
 ghost use Rattle.lwk_tables.specs.Frames.{frames_map};
 ghost use Rattle.mck_word.specs.Maps.{no_rows};
-ghost use Rattle.one_files.specs.Seen.{seen};
 ghost use Rattle.pair_core.specs.Booting.{BootLacks, IsBefore, guest_at, no_guests, pair_with};
 ghost use Rattle.pair_core.specs.Kept.{Kept};
 ghost use Rattle.pair_core.specs.Shown.{pair_of};
@@ -20,13 +19,13 @@ use crate::boot_script::boot_script;
 use crate::parts::Parts;
 use frame_mem::FrameMem;
 use frame_pool::FramePool;
+use job_files::JobFiles;
 use job_model::{GuestLine, Image, Job};
 use key_rows::Rows;
 use lwk_boot::{load_guest, needed_frames};
 use lwk_node::Node;
 use lwk_side::{Last, Lwk};
 use mck_word::NoMemory;
-use one_files::RowFiles;
 use page_map::PageTable;
 use proxy_worker::Turns;
 use rv64i_user::KnownWords;
@@ -67,11 +66,11 @@ fn boot_lwk(alloc: Global, job: &Job, images: &[Image]) -> Result<Lwk, NoMemory>
     })
 }
 
-impl<T: PageTable + Drop> Parts<T, RowFiles> {
+impl<T: PageTable + Drop, F: JobFiles> Parts<T, F> {
     /// The two kernels before the first guest.
     fn without_guests(alloc: Global, job: &Job, images: &[Image]) -> Result<Self, NoMemory>
         requires { IsPrepared job.now images.now }
-        ensures state { IfOk result (λ x. pair_of T.rows seen x ≡ no_guests job.now) }
+        ensures state { IfOk result (λ x. pair_of T.rows F.files x ≡ no_guests job.now) }
         ensures kept { IfOk result (λ x. Kept x) }
     {
         let lwk = boot_lwk(alloc, job, images)?;
@@ -84,6 +83,7 @@ impl<T: PageTable + Drop> Parts<T, RowFiles> {
             turns: Turns::new(alloc),
             workers: job.workers,
             known,
+            newborn: None,
         })
     }
 
@@ -97,12 +97,12 @@ impl<T: PageTable + Drop> Parts<T, RowFiles> {
     ) -> Result<(), NoMemory>
         requires kept { Kept self.old }
         requires workers { self.old.workers ≤ 4 }
-        requires before { IsBefore number (pair_of T.rows seen self.old).node }
+        requires before { IsBefore number (pair_of T.rows F.files self.old).node }
         requires most { number ≤ 16 }
         requires arguments { HasArguments line.now }
         requires image { IsImage image.now }
         requires enough { needed_by image.now ≤ length self.old.lwk.pool.free }
-        ensures state { OnOk result (pair_of T.rows seen self.new ≡ pair_with (pair_of T.rows seen self.old) (guest_at number line.now image.now)) }
+        ensures state { OnOk result (pair_of T.rows F.files self.new ≡ pair_with (pair_of T.rows F.files self.old) (guest_at number line.now image.now)) }
         ensures kept { OnOk result (Kept self.new) }
         ensures left { OnOk result (length self.new.lwk.pool.free + needed_by image.now ≡ length self.old.lwk.pool.free) }
     {
@@ -131,11 +131,11 @@ impl<T: PageTable + Drop> Parts<T, RowFiles> {
     ) -> Result<(), BootError>
         requires kept { Kept self.old }
         requires workers { self.old.workers ≤ 4 }
-        requires before { IsBefore number (pair_of T.rows seen self.old).node }
+        requires before { IsBefore number (pair_of T.rows F.files self.old).node }
         requires most { number ≤ 16 }
         requires arguments { HasArguments line.now }
         requires image { IsImage image.now }
-        ensures state { OnOk result (pair_of T.rows seen self.new ≡ pair_with (pair_of T.rows seen self.old) (guest_at number line.now image.now)) }
+        ensures state { OnOk result (pair_of T.rows F.files self.new ≡ pair_with (pair_of T.rows F.files self.old) (guest_at number line.now image.now)) }
         ensures kept { OnOk result (Kept self.new) }
         ensures left { OnOk result (length self.new.lwk.pool.free + needed_by image.now ≡ length self.old.lwk.pool.free) }
         ensures frames { MatchResult result (λ _. shortage_from (length self.old.lwk.pool.free) (guest_at number line.now image.now ∷ []) ≡ None) (λ e. BootLacks e (shortage_from (length self.old.lwk.pool.free) (guest_at number line.now image.now ∷ []))) }
@@ -162,11 +162,11 @@ impl<T: PageTable + Drop> Parts<T, RowFiles> {
     ) -> Result<(), BootError>
         requires kept { Kept self.old }
         requires workers { self.old.workers ≤ 4 }
-        requires before { IsBefore 1 (pair_of T.rows seen self.old).node }
+        requires before { IsBefore 1 (pair_of T.rows F.files self.old).node }
         requires most { length lines.now ≤ 16 }
         requires arguments { All HasArguments lines.now }
         requires images { All IsImage images.now }
-        ensures state { OnOk result (pair_of T.rows seen self.new ≡ fold pair_with (pair_of T.rows seen self.old) (guests_from 1 lines.now images.now)) }
+        ensures state { OnOk result (pair_of T.rows F.files self.new ≡ fold pair_with (pair_of T.rows F.files self.old) (guests_from 1 lines.now images.now)) }
         ensures kept { OnOk result (Kept self.new) }
         ensures frames { MatchResult result (λ _. shortage_from (length self.old.lwk.pool.free) (guests_from 1 lines.now images.now) ≡ None) (λ e. BootLacks e (shortage_from (length self.old.lwk.pool.free) (guests_from 1 lines.now images.now))) }
     {
@@ -188,7 +188,7 @@ impl<T: PageTable + Drop> Parts<T, RowFiles> {
     /// The two kernels at the boot of a job and its images. `NoFrames` names the first guest for which the frames don't suffice.
     pub fn boot(alloc: Global, job: &Job, images: &[Image]) -> Result<Self, BootError>
         requires { IsPrepared job.now images.now }
-        ensures state { IfOk result (λ x. pair_of T.rows seen x ≡ boot job.now images.now) }
+        ensures state { IfOk result (λ x. pair_of T.rows F.files x ≡ boot job.now images.now) }
         ensures kept { IfOk result (λ x. Kept x) }
         ensures frames { MatchResult result (λ _. shortage job.now images.now ≡ None) (λ e. BootLacks e (shortage job.now images.now)) }
     {

@@ -1,6 +1,8 @@
 // Events of the lightweight kernel.
 ghost use Rattle.file_model.specs.Files.{Files};
-ghost use Rattle.hybrid_model.specs.Events.{after, of_line};
+ghost use Rattle.hybrid_model.specs.Events.{after, of_line, of_thread};
+ghost use Rattle.hybrid_model.specs.Lwk.{executed_in_run};
+ghost use Rattle.hybrid_model.specs.Pairs.{here};
 ghost use Rattle.hybrid_model.specs.declared.events.Event.TheVariants.{Run, Script};
 ghost use Rattle.kernel_model.specs.Traps.{line_of};
 ghost use Rattle.lwk_node.specs.Shown.{node_of};
@@ -15,18 +17,19 @@ use mck_word::{Pid, Tid};
 use page_map::PageTable;
 
 impl<T: PageTable + Drop, F: FileStore> Parts<T, F> {
-    /// The thread executes at most `most` instructions on its core.
-    pub fn run(&mut self, core: u32, t: Tid, most: u32)
+    /// The thread executes at most `most` instructions on its core, and their number is answered.
+    pub fn run(&mut self, core: u32, t: Tid, most: u32) -> u32
         requires ready { Ready (pair_of T.rows F.files self.old) (Run core t most) }
         requires kept { Kept self.old }
         ensures after { pair_of T.rows F.files self.new ≡ after (pair_of T.rows F.files self.old) (Run core t most) }
+        ensures executed { result ≡ (let pair = pair_of T.rows F.files self.old in executed_in_run t.0 most (here pair (of_thread pair.node t.0))) }
         ensures kept { Kept self.new }
     {
         let _left = self.lwk.node.left_of_limit();
         let p = self.lwk.node.process_of_thread(t);
         let side = self.sides.row_mut(p.0 as u64);
         self.lwk
-            .run(&side.task, &side.channel, t, most, &mut self.known);
+            .run(&side.task, &side.channel, t, most, &mut self.known)
     }
 
     /// The line of the script of that index sends its signal.

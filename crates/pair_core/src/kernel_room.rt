@@ -76,11 +76,13 @@ impl<T: PageTable + Drop, F: FileStore> Parts<T, F> {
         self.lwk.node.reserve_sleeper()
     }
 
-    /// Makes room for a thread that begins, beside the room for sleepers that there is.
-    fn make_thread_room(&mut self) -> Result<(), NoMemory>
+    /// Makes room for a thread that begins, beside the room for sleepers and processes that there is.
+    pub(crate) fn make_thread_room(&mut self) -> Result<(), NoMemory>
         ensures same { pair_of T.rows F.files self.new ≡ pair_of T.rows F.files self.old }
         ensures kept { Kept self.old → Kept self.new }
         ensures sleepers { self.old.lwk.node.sleepers.spare ≤ self.new.lwk.node.sleepers.spare }
+        ensures processes { self.old.lwk.node.processes.spare ≤ self.new.lwk.node.processes.spare }
+        ensures workers { self.new.workers ≡ self.old.workers }
         ensures room { OnOk result (1 ≤ self.new.lwk.node.threads.spare) }
     {
         self.lwk.node.reserve_thread()

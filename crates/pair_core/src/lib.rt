@@ -9,8 +9,9 @@ mod boot_files;
 mod boot_guests;
 mod boot_script;
 mod booting;
-mod built;
 mod delivers;
+mod fork_room;
+mod forks;
 mod kernel_events;
 mod kernel_may;
 mod kernel_room;
@@ -23,6 +24,7 @@ mod pieces;
 mod pins;
 mod requests;
 mod rounds;
+mod trap_or_fork;
 mod traps;
 mod waits;
 

@@ -16,7 +16,7 @@ pub struct Side<T: PageTable> {
 }
 
 /// The parts of the two kernels: the lightweight kernel, the processes by number, the files, the turns at pipes, the number of workers
-/// of each proxy, and the instructions that were decoded before.
+/// of each proxy, the instructions that were decoded before, and the side of the next child, where it was made ready.
 #[derive(Drop)]
 pub struct Parts<T: PageTable, F: FileStore> {
     pub lwk: Lwk,
@@ -25,4 +25,5 @@ pub struct Parts<T: PageTable, F: FileStore> {
     pub turns: Turns,
     pub workers: u32,
     pub known: KnownWords,
+    pub newborn: Option<Side<T>>,
 }

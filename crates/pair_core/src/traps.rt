@@ -3,13 +3,12 @@ ghost use Rattle.file_model.specs.Files.{Files};
 ghost use Rattle.hybrid_model.specs.Events.{after};
 ghost use Rattle.hybrid_model.specs.declared.events.Event.TheVariants.{Reap, Trap};
 ghost use Rattle.lwk_node.specs.Shown.{node_of};
-ghost use Rattle.lwk_side.specs.Built.{is_built_trap};
 ghost use Rattle.lwk_side.specs.Cloning.{calls_fork};
 ghost use Rattle.pair_core.specs.KernelRoom.{HasKernelRoom};
 ghost use Rattle.pair_core.specs.Kept.{Kept};
 ghost use Rattle.pair_core.specs.Ready.{Ready};
 ghost use Rattle.pair_core.specs.Shown.{pair_of};
-ghost use Rattle.std.specs.Prelude.{◌≡◌, false, true};
+ghost use Rattle.std.specs.Prelude.{◌≡◌, false};
 
 use crate::parts::Parts;
 use file_calls::store::FileStore;
@@ -25,7 +24,6 @@ impl<T: PageTable + Drop, F: FileStore> Parts<T, F> {
     pub fn trap(&mut self, t: Tid)
         requires ready { Ready (pair_of T.rows F.files self.old) (Trap t) }
         requires kept { Kept self.old }
-        requires built { (files : Files) → is_built_trap (node_of self.old.lwk.node files) t.0 ≡ true }
         requires no_fork { (files : Files) → calls_fork (node_of self.old.lwk.node files) t.0 ≡ false }
         requires room { HasKernelRoom T.rows T.has_room F.files (Trap t) self.old }
         ensures after { pair_of T.rows F.files self.new ≡ after (pair_of T.rows F.files self.old) (Trap t) }

@@ -1,32 +1,30 @@
--- The numbers of the processes stay over an event that makes none.
+-- The numbers of the processes over an event: they stay, and the next number is one more where a process begins.
+use Rattle.hybrid_laws.specs.CallsLast.{born-is}
 use Rattle.hybrid_laws.specs.EveryEvent.{whole_event}
 use Rattle.hybrid_laws.specs.Tests.{both}
 use Rattle.hybrid_laws.specs.WholePair.{has-side}
 use Rattle.hybrid_model.specs.Events.{after, after_here, may, may_here, process_of_event}
 use Rattle.hybrid_model.specs.Globals.{Coherent}
-use Rattle.hybrid_model.specs.Lwk.{after_trap, trapped, view_here}
 use Rattle.hybrid_model.specs.Pairs.{Here, Pair, here, with_born}
+use Rattle.hybrid_model.specs.Sides.{Side}
+use Rattle.hybrid_model.specs.declared.events.Event.TheVariants.{Trap}
 use Rattle.hybrid_model.specs.declared.events.Event.{Event}
-use Rattle.isa_model.specs.Registers.{reg}
-use Rattle.isa_model.specs.declared.stops.Stop.TheVariants.{Ecall}
-use Rattle.isa_model.specs.declared.stops.Stop.{Stop}
-use Rattle.kernel_model.specs.Calls.{local_call}
-use Rattle.kernel_model.specs.CloneCalls.{CallDone, Cloned, are_fork_flags}
-use Rattle.kernel_model.specs.MemoryCalls.{Decision, Now, Reply, Round}
-use Rattle.kernel_model.specs.MemoryCalls as memory
-use Rattle.kernel_model.specs.Nodes.{is_there, process_of, stop_in, thread_of}
-use Rattle.kernel_model.specs.Plans.{Delegated, Local, Plan, Unknown, Vm, plan}
-use Rattle.kernel_model.specs.Signals.{View}
-use Rattle.kernel_model.specs.Traps.{arguments_of, cloned, decided, past_ecall, planned, trap, trap_of_stop}
-use Rattle.lwk_side.specs.Cloning.{calls_fork, forks_at, names_fork}
+use Rattle.kernel_model.specs.Nodes.{Process, has_process, is_there, no_process}
 use Rattle.mck_word.specs.MapLaws.{at-put}
-use Rattle.mck_word.specs.Maps.{at, keys, put}
+use Rattle.mck_word.specs.Maps.{Map, at, keys, put}
+use Rattle.mck_word.specs.declared.Pid.{Pid}
+use Rattle.mck_word.specs.declared.Tid.{Tid}
+use Rattle.pair_node.proofs.LastKey.{keys-put}
 use Rattle.pair_node.proofs.SameKeys.{same-keys}
 use Rattle.std.proofs.Common.{ap, arith, refl, sym, ◌∙◌}
 use Rattle.std.proofs.lemmas.Bool.Decides.{nat_tests}
-use Rattle.std.specs.Prelude.{Bool, None, Option, Some, cond, false, get_or, is_some, length, true, ℕ, ◌&&◌, ◌==◌, ◌≡◌}
+use Rattle.std.specs.Prelude.{Bool, List, None, Option, Some, [], cond, false, is_some, map, true, ℕ, ◌++◌, ◌<◌, ◌==◌, ◌∷◌, ◌≡◌}
 
--- ---- an event that makes no process
+-- whether there is a row beside one more
+some-or : {V : Type 0} (b : Bool) (v : V) (o : Option V) → is_some (cond b (Some v) o) ≡ cond b true (is_some o)
+some-or true v o = refl
+some-or false v o = refl
+
 module _ (pair : Pair) (c : Coherent pair) (e : Event) (m : may pair e ≡ true) where
   abbrev p : ℕ
   p = process_of_event pair.node e
@@ -34,44 +32,88 @@ module _ (pair : Pair) (c : Coherent pair) (e : Event) (m : may pair e ≡ true)
   abbrev now : Here
   now = after_here e p (here pair p)
 
+  abbrev next : ℕ
+  next = pair.node.next_number
+
+  abbrev stays : Map Side
+  stays = put pair.sides p now.side
+
   there : is_there pair.node p ≡ true
   there = (both (is_there pair.node p) (may_here e (here pair p)) m).0
 
   later : Coherent (after pair e)
   later = (whole_event pair c e m).0
 
-  own : (q : ℕ) (b : Bool) → (q == p) ≡ b → is_some (cond b (Some now.side) (at pair.sides q)) ≡ is_some (at pair.sides q)
-  own q false f = refl
-  own q true f = let g : q ≡ p = grind (arith, nat_tests, f) in sym (ap (λ j. is_some (at pair.sides j)) g ∙ ap is_some (has-side pair c.known p there))
+  own : (q : ℕ) → is_some (at stays q) ≡ has_process pair.node q
+  own q = ap is_some (at-put pair.sides p now.side q) ∙ go (q == p) refl ∙ c.known.sides_are q
+    where
+      go : (b : Bool) → (q == p) ≡ b → is_some (cond b (Some now.side) (at pair.sides q)) ≡ is_some (at pair.sides q)
+      go false f = refl
+      go true f = let g : q ≡ p = grind (arith, nat_tests, f) in sym (ap (λ j. is_some (at pair.sides j)) g ∙ ap is_some (has-side pair c.known p there))
 
-  pub keys-stay : now.born ≡ None → keys (after pair e).node.processes ≡ keys pair.node.processes
-  keys-stay none = same-keys (after pair e).node.processes pair.node.processes (λ q.
-      sym (later.known.sides_are q) ∙ ap (λ o. is_some (at (with_born (put pair.sides p now.side) o) q)) none ∙ ap is_some (at-put pair.sides p now.side q) ∙ own q (q == p) refl ∙ c.known.sides_are q)
+  has-later : (q : ℕ) (o : Option (ℕ × Side)) → now.born ≡ o → has_process (after pair e).node q ≡ is_some (at (with_born stays o) q)
+  has-later q o f = sym (later.known.sides_are q) ∙ ap (λ b. is_some (at (with_born stays b) q)) f
 
--- ---- a trap that is no fork
-module _ (p t free : ℕ) (v : View) (h : Here) where
-  local-born : (b f : Bool) (x : Cloned) (w u : View) → (b && f) ≡ false → (trapped p t (cloned (cond b (cond f x (CallDone w)) (CallDone u))) h).born ≡ h.born
-  local-born false f x w u e = refl
-  local-born true false x w u e = refl
-  local-born true true x w u e = absurd (grind (arith, e))
+  below : (q : ℕ) → has_process pair.node q ≡ true → q < next
+  below q f = go (at pair.node.processes q) refl f
+    where
+      go : (o : Option Process) → at pair.node.processes q ≡ o → is_some o ≡ true → q < next
+      go (Some x) g h = c.known.processes_below q x g
+      go None g h = absurd (grind (arith, h))
 
-  decided-born : (d : Decision) → (trapped p t (decided t (past_ecall t v) d) h).born ≡ h.born
-  decided-born (Reply answer) = refl
-  decided-born (Now change) = refl
-  decided-born (Round change) = refl
+  -- the next number is that of no process
+  fresh : has_process pair.node next ≡ false
+  fresh = go (has_process pair.node next) refl
+    where
+      go : (b : Bool) → has_process pair.node next ≡ b → b ≡ false
+      go false f = refl
+      go true f = let l = below next f in absurd (omega (arith, l))
 
-  planned-born : (y : Plan) → names_fork (thread_of v.node t).regs ≡ false → (trapped p t (planned t free (thread_of v.node t).regs (past_ecall t v) y) h).born ≡ h.born
-  unfolding local_call
-  planned-born Unknown e = refl
-  planned-born Local e = local-born (reg (thread_of v.node t).regs 17 == 220) (are_fork_flags (get_or (arguments_of (thread_of v.node t).regs) 0 0)) _ _ _ e
-  planned-born Vm e = decided-born (memory.decide (process_of (past_ecall t v).node (thread_of (past_ecall t v).node t).process) (past_ecall t v).memory free (reg (thread_of v.node t).regs 17) (arguments_of (thread_of v.node t).regs))
-  planned-born (Delegated phases) e = refl
+  unmade : now.born ≡ None → has_process (after pair e).node next ≡ false
+  unmade none = has-later next None none ∙ own next ∙ fresh
 
-  stop-born : (o : Option Stop) → forks_at (thread_of v.node t).regs o ≡ false → (trapped p t (trap_of_stop t free v o) h).born ≡ h.born
-  stop-born None f = refl
-  stop-born (Some Ecall) f = planned-born (plan (reg (thread_of v.node t).regs 17) (arguments_of (thread_of v.node t).regs)) f
-  stop-born (Some stop) f = refl
+  module _ (b : ℕ × Side) (some : now.born ≡ Some b) where
+    number : b.0 ≡ next
+    number = (born-is e p (here pair p) refl b some).number
 
-pub trap-born : (p t : ℕ) (h : Here) → calls_fork h.node t ≡ false → (after_trap p t h).born ≡ h.born
-unfolding after_trap trap
-trap-born p t h f = stop-born p t (length h.free) (view_here h) h (stop_in (thread_of h.node t).does) f
+    has-made : (q : ℕ) → has_process (after pair e).node q ≡ is_some (at (put pair.node.processes next no_process) q)
+    has-made q =
+        has-later q (Some b) some
+        ∙ ap is_some (at-put stays b.0 b.1 q)
+        ∙ some-or (q == b.0) b.1 (at stays q)
+        ∙ (λ i. cond (q == number i) true (own q i))
+        ∙ sym (ap is_some (at-put pair.node.processes next no_process q) ∙ some-or (q == next) no_process (at pair.node.processes q))
+
+    made : has_process (after pair e).node next ≡ true
+    made =
+        has-made next ∙ ap is_some (at-put pair.node.processes next no_process next)
+        ∙ (let same : (next == next) ≡ true = grind (arith, nat_tests) in ap (λ t. is_some (cond t (Some no_process) (at pair.node.processes next))) same)
+
+    keys-made : keys (after pair e).node.processes ≡ keys pair.node.processes ++ next ∷ []
+    keys-made = same-keys (after pair e).node.processes (put pair.node.processes next no_process) has-made ∙ keys-put next no_process pair.node.processes below
+
+  pub keys-after : keys (after pair e).node.processes ≡ cond (has_process (after pair e).node next) (keys pair.node.processes ++ next ∷ []) (keys pair.node.processes)
+  keys-after = go now.born refl
+    where
+      go : (o : Option (ℕ × Side)) → now.born ≡ o → keys (after pair e).node.processes ≡ cond (has_process (after pair e).node next) (keys pair.node.processes ++ next ∷ []) (keys pair.node.processes)
+      go None f =
+          same-keys (after pair e).node.processes pair.node.processes (λ q. has-later q None f ∙ own q)
+          ∙ sym (ap (λ b. cond b (keys pair.node.processes ++ next ∷ []) (keys pair.node.processes)) (unmade f))
+      go (Some b) f = keys-made b f ∙ sym (ap (λ t. cond t (keys pair.node.processes ++ next ∷ []) (keys pair.node.processes)) (made b f))
+
+  -- a process begins by a trap
+  pub begins-by-trap : has_process (after pair e).node next ≡ true → (t : Tid) × (e ≡ Trap t)
+  begins-by-trap h = go now.born refl
+    where
+      go : (o : Option (ℕ × Side)) → now.born ≡ o → (t : Tid) × (e ≡ Trap t)
+      go None f = absurd (let a : false ≡ true = sym (unmade f) ∙ h in grind (arith, a))
+      go (Some b) f = let a = born-is e p (here pair p) refl b f in (a.thread, a.traps)
+
+-- numbers to which one is added
+pub numbers-added : (b : Bool) (ps : List Pid) (p : Pid) → map (λ (x : Pid). x.0) (cond b (ps ++ p ∷ []) ps) ≡ cond b (map (λ (x : Pid). x.0) ps ++ p.0 ∷ []) (map (λ (x : Pid). x.0) ps)
+numbers-added false ps p = refl
+numbers-added true ps p = pushed ps
+  where
+    pushed : (qs : List Pid) → map (λ (x : Pid). x.0) (qs ++ p ∷ []) ≡ map (λ (x : Pid). x.0) qs ++ p.0 ∷ []
+    pushed [] = refl
+    pushed (q ∷ qs) = ap (λ (ns : List ℕ). q.0 ∷ ns) (pushed qs)

@@ -4,7 +4,7 @@ use Rattle.hybrid_model.specs.Globals.{Coherent}
 use Rattle.hybrid_model.specs.Pairs.{Pair, side_of}
 use Rattle.hybrid_model.specs.Sides.{Row, Side as SideOf, new_side}
 use Rattle.hybrid_model.specs.Journals.{runs_on}
-use Rattle.kernel_model.specs.Nodes.{Process, ScriptLine, has_ended, is_living, ready_to_run}
+use Rattle.kernel_model.specs.Nodes.{Process, ScriptLine, has_ended, has_process, is_living, ready_to_run}
 use Rattle.kernel_model.specs.declared.Does.{Does}
 use Rattle.key_rows.specs.Table.{key_from}
 use Rattle.lwk_node.proofs.Rows.{shown_thread}
@@ -76,7 +76,7 @@ module _ {T F : Type 0} (rows : T → Map Row) (files : F → Files) (x : Parts 
       twice (Some l) = refl
 
   -- the requests of a process that has a row, and of one that has none
-  side-is : (p : ℕ) (o : Option (Side T)) → at x.sides.map p ≡ o → side_of (pair_of rows files x) p ≡ unwrap_or (option_map (shown_side rows) o) (new_side 0)
+  pub side-is : (p : ℕ) (o : Option (Side T)) → at x.sides.map p ≡ o → side_of (pair_of rows files x) p ≡ unwrap_or (option_map (shown_side rows) o) (new_side 0)
   unfolding pair_of
   side-is p o e = ap (λ (q : Option SideOf). unwrap_or q (new_side 0)) (at-each (shown_side rows) x.sides.map p ∙ ap (option_map (shown_side rows)) e)
 
@@ -92,6 +92,16 @@ module _ {T F : Type 0} (rows : T → Map Row) (files : F → Files) (x : Parts 
 
   pub no-requests-from : (p from : ℕ) → at x.sides.map p ≡ None → key_from (side_of (pair_of rows files x) p).book.rows from ≡ None
   no-requests-from p from e = ap (λ (y : SideOf). key_from y.book.rows from) (side-is p None e) ∙ none-from _ from
+
+-- the next number
+pub next-is : {T F : Type 0} (rows : T → Map Row) (files : F → Files) (x : Parts T F) (n : ℕ) → ((other : Files) → n ≡ (node_of x.lwk.node other).next_number) → n ≡ (pair_of rows files x).node.next_number
+unfolding pair_of
+next-is rows files x n e = e (files x.files)
+
+-- whether a process was made
+pub made-is : {T F : Type 0} (rows : T → Map Row) (files : F → Files) (x : Parts T F) (p : ℕ) (b : Bool) → ((other : Files) → b ≡ has_process (node_of x.lwk.node other) p) → b ≡ has_process (pair_of rows files x).node p
+unfolding pair_of
+made-is rows files x p b e = e (files x.files)
 
 -- a request's number is small
 pub request-small : (pair : Pair) → Coherent pair → Small pair → (p from : ℕ) (o : Option Req) → option_map (λ (q : Req). q.0) o ≡ key_from (side_of pair p).book.rows from → IfSome o (λ (q : Req). q.0 < 2 ^ 64 - 1)

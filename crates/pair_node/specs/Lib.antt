@@ -1,3 +1,3 @@
 pub mod Summed
-pub mod Built
 pub mod Room
+pub mod Steps

@@ -4,16 +4,15 @@ ghost use Rattle.hybrid_model.specs.Boot.{boot, shortage};
 ghost use Rattle.job_model.specs.Prepared.{IsPrepared};
 ghost use Rattle.lwk_node.specs.Shown.{node_of};
 ghost use Rattle.mck_word.specs.Maps.{keys};
-ghost use Rattle.one_files.specs.Seen.{seen};
 ghost use Rattle.pair_core.specs.Booting.{BootLacks};
 ghost use Rattle.pair_core.specs.Shown.{pair_of};
 ghost use Rattle.std.specs.Prelude.{◌≡◌, IfOk, MatchResult, None, map};
 
 use crate::pair::Pair;
+use job_files::JobFiles;
 use job_model::{Image, Job};
 use lwk_node::Node;
 use mck_word::{NoMemory, Pid};
-use one_files::RowFiles;
 use page_map::PageTable;
 use pair_core::{BootError, Parts};
 use std::alloc::Global;
@@ -31,14 +30,14 @@ fn numbers(alloc: Global, node: &Node) -> Result<Vec<Pid>, NoMemory>
     Ok(pids)
 }
 
-impl<T: PageTable + Drop> Pair<T, RowFiles> {
+impl<T: PageTable + Drop, F: JobFiles> Pair<T, F> {
     /// The two kernels at the boot of a job and its images. `NoFrames` names the first guest for which the frames don't suffice.
     pub fn boot(alloc: Global, job: &Job, images: &[Image]) -> Result<Self, BootError>
         requires { IsPrepared job.now images.now }
-        ensures state { IfOk result (λ x. pair_of T.rows seen x.parts ≡ boot job.now images.now) }
+        ensures state { IfOk result (λ x. pair_of T.rows F.files x.parts ≡ boot job.now images.now) }
         ensures frames { MatchResult result (λ _. shortage job.now images.now ≡ None) (λ e. BootLacks e (shortage job.now images.now)) }
     {
-        let parts: Parts<T, RowFiles> = Parts::boot(alloc, job, images)?;
+        let parts: Parts<T, F> = Parts::boot(alloc, job, images)?;
         let pids = numbers(alloc, &parts.lwk.node)?;
         Ok(Pair { alloc, parts, pids })
     }

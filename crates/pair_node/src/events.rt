@@ -1,5 +1,6 @@
 // The events, each as a method of the parts.
 ghost use Rattle.hybrid_model.specs.Events.{after};
+ghost use Rattle.mcexec_run.specs.Auditing.{executed};
 ghost use Rattle.pair_core.specs.Kept.{Kept};
 ghost use Rattle.pair_core.specs.Ready.{Ready};
 ghost use Rattle.pair_core.specs.Shown.{pair_of};
@@ -13,11 +14,7 @@ use pair_core::Parts;
 use std::alloc::Global;
 
 /// The event happens, for which there is room.
-pub fn happen<T: PageTable + Drop, F: FileStore>(
-    parts: &mut Parts<T, F>,
-    alloc: Global,
-    event: Event,
-)
+fn happens<T: PageTable + Drop, F: FileStore>(parts: &mut Parts<T, F>, alloc: Global, event: Event)
     requires ready { Ready (pair_of T.rows F.files parts.old) event }
     requires kept { Kept parts.old }
     requires room { HasRoom T.rows T.has_room F.room F.can_write F.files event parts.old }
@@ -25,8 +22,10 @@ pub fn happen<T: PageTable + Drop, F: FileStore>(
     ensures kept { Kept parts.new }
 {
     match event {
-        Event::Run(core, t, most) => parts.run(core, t, most),
-        Event::Trap(t) => parts.trap(t),
+        Event::Run(core, t, most) => {
+            parts.run(core, t, most);
+        }
+        Event::Trap(t) => parts.trap_or_fork(t),
         Event::Deliver(t) => parts.deliver(t),
         Event::Intake(p) => parts.intake(p),
         Event::Answer(p, w) => parts.answer(p, w),
@@ -46,5 +45,27 @@ pub fn happen<T: PageTable + Drop, F: FileStore>(
         Event::Unpark(p, q) => parts.unpark(p, q),
         Event::Finish(p, w) => parts.finish(p, w),
         Event::AckClear(p) => parts.ack_clear(p),
+    }
+}
+
+/// The event happens, for which there is room. The answer is how many instructions it executed.
+pub fn happen<T: PageTable + Drop, F: FileStore>(
+    parts: &mut Parts<T, F>,
+    alloc: Global,
+    event: Event,
+) -> u64
+    requires ready { Ready (pair_of T.rows F.files parts.old) event }
+    requires kept { Kept parts.old }
+    requires room { HasRoom T.rows T.has_room F.room F.can_write F.files event parts.old }
+    ensures after { pair_of T.rows F.files parts.new ≡ after (pair_of T.rows F.files parts.old) event }
+    ensures executed { result ≡ executed (pair_of T.rows F.files parts.old) event }
+    ensures kept { Kept parts.new }
+{
+    match event {
+        Event::Run(core, t, most) => u64::from(parts.run(core, t, most)),
+        event => {
+            happens(parts, alloc, event);
+            0
+        }
     }
 }

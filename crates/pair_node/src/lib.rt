@@ -2,18 +2,18 @@
 //!
 //! Promises: a `Pair` is in a state that is coherent, lasts and is small (pair_core, Ready), and tells whether an event may happen in it
 //! (hybrid_model, Events), what a run asks of it (pair_offers, Inspect) and what a report says of it (run_summary, Summaries). Where room
-//! was made for an event, it happens: the state after it is the definition's, and takes no memory. What isn't built yet of the events
-//! stands in specs/Built.
+//! was made for an event, it happens: the state after it is the definition's, and takes no memory. The step of the one-kernel machine that
+//! an event stands for is told too (hybrid_model, Images).
 #![tactic(auto)]
 
 mod asked;
 mod booting;
-mod built;
 mod events;
 mod inspect;
 mod machine;
 mod pair;
 mod room;
+mod steps;
 mod summary;
 
 pub use pair::Pair;

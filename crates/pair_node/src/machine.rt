@@ -1,23 +1,23 @@
 // The node as the machine that a walk drives.
-ghost use Rattle.one_files.specs.Seen.{can_write_of, room_of, seen};
 ghost use Rattle.pair_core.specs.Booting.{BootLacks};
 ghost use Rattle.mcexec_run.specs.Booting.{BootFails};
 ghost use Rattle.hybrid_model.specs.Boot.{Shortage};
 ghost use Rattle.pair_core.specs.Shown.{pair_of};
-ghost use Rattle.pair_node.specs.Built.{built};
-ghost use Rattle.pair_node.specs.Room.{HasRoom};
-ghost use Rattle.std.specs.Prelude.{Option};
+ghost use Rattle.pair_node.specs.Room.{HasPlace, HasRoom};
+ghost use Rattle.std.specs.Prelude.{Option, ◌-◌, vec_len};
+ghost use Rattle.std.specs.Vec.{vec_capacity};
 
 use crate::pair::Pair;
 use elf_load::Image;
 use file_calls::store::FileStore;
 use hybrid_model::{Ending, Event};
 use ihk_parts::{Actor, Offers};
+use job_files::JobFiles;
 use job_text::Job;
-use mcexec_run::{BootError, Machine, Refused};
+use kernel_model::Step;
+use mcexec_run::{BootError, Machine};
 use mck_word::{NoMemory, Pid};
 use offer_laws::offers_may;
-use one_files::RowFiles;
 use page_map::PageTable;
 use pair_offers::Inspect;
 use run_summary::Summary;
@@ -61,10 +61,8 @@ fn boot_error(error: pair_core::BootError) -> BootError
     }
 }
 
-impl<T: PageTable + Drop> Machine for Pair<T, RowFiles> {
-    ghost has_room = { λ x e. HasRoom T.rows T.has_room room_of can_write_of seen e x.parts };
-
-    ghost built = { built };
+impl<T: PageTable + Drop, F: JobFiles> Machine for Pair<T, F> {
+    ghost has_room = { λ x e. HasRoom T.rows T.has_room F.room F.can_write F.files e x.parts × HasPlace e (vec_capacity x.pids - vec_len x.pids) };
 
     fn boot(alloc: Global, job: &Job, images: &[Image]) -> Result<Self, BootError> {
         match Pair::boot(alloc, job, images) {
@@ -73,13 +71,25 @@ impl<T: PageTable + Drop> Machine for Pair<T, RowFiles> {
         }
     }
 
-    fn make_room(&mut self, event: &Event) -> Result<(), Refused> {
+    fn make_room(&mut self, event: &Event) -> Result<(), NoMemory> {
         offers_may();
         Pair::make_room(self, event)
     }
 
-    fn apply(&mut self, event: &Event) {
+    fn may(&self, event: &Event) -> bool {
+        Pair::may(self, event)
+    }
+
+    fn step_of(&self, event: &Event) -> Option<Step> {
+        Pair::step_of(self, event)
+    }
+
+    fn apply(&mut self, event: &Event) -> u64 {
         Pair::apply(self, event)
+    }
+
+    fn reached(&self) {
+        Pair::reached(self)
     }
 
     fn ending(&self) -> Ending {

@@ -1,21 +1,20 @@
 // The parts of the two kernels in a state that they reach.
 ghost use Rattle.hybrid_model.specs.Events.{after, may};
 ghost use Rattle.mck_word.specs.Maps.{keys};
-ghost use Rattle.mcexec_run.specs.declared.machine.Refused.TheVariants.{NotBuilt};
+ghost use Rattle.mcexec_run.specs.Auditing.{IsReached, executed};
 ghost use Rattle.pair_core.specs.Kept.{Kept};
 ghost use Rattle.pair_core.specs.Ready.{IsSound};
 ghost use Rattle.pair_core.specs.Shown.{pair_of};
-ghost use Rattle.pair_node.specs.Built.{built};
-ghost use Rattle.pair_node.specs.Room.{HasRoom};
-ghost use Rattle.std.specs.Prelude.{◌≡◌, ◌↔◌, IsErrOf, OnOk, false, map, true};
+ghost use Rattle.pair_node.specs.Room.{HasPlace, HasRoom};
+ghost use Rattle.kernel_model.specs.Nodes.{has_process};
+ghost use Rattle.std.specs.Prelude.{◌≡◌, ◌-◌, ◌<◌, ◌++◌, ◌∷◌, [], OnOk, cond, map, true, vec_len};
+ghost use Rattle.std.specs.Vec.{vec_capacity};
 
-use crate::built::is_built;
 use crate::events::happen;
-use crate::room::make_room;
+use crate::room::{make_place, make_room};
 use file_calls::store::FileStore;
 use hybrid_model::Event;
-use mcexec_run::Refused;
-use mck_word::Pid;
+use mck_word::{NoMemory, Pid};
 use page_map::PageTable;
 use pair_core::Parts;
 use std::alloc::Global;
@@ -29,6 +28,16 @@ pub struct Pair<T: PageTable, F: FileStore> {
     pub ghost sound: { ∥ IsSound (pair_of T.rows F.files parts) ∥₁ },
     pub ghost kept: { Kept parts },
     pub ghost numbered: { map (λ p. p.0) pids.items ≡ keys (pair_of T.rows F.files parts).node.processes },
+}
+
+/// Notes the process of that number among the numbers, where it was made.
+fn note_made<T: PageTable + Drop, F: FileStore>(pids: &mut Vec<Pid>, parts: &Parts<T, F>, p: Pid)
+    requires { has_process (pair_of T.rows F.files parts.now).node p.0 ≡ true → vec_len pids.old < vec_capacity pids.old }
+    ensures { pids.new.items ≡ cond (has_process (pair_of T.rows F.files parts.now).node p.0) (pids.old.items ++ p ∷ []) pids.old.items }
+{
+    if parts.lwk.node.has_process(p) {
+        pids.push_reserved(p);
+    }
 }
 
 impl<T: PageTable + Drop, F: FileStore> Pair<T, F> {
@@ -46,26 +55,32 @@ impl<T: PageTable + Drop, F: FileStore> Pair<T, F> {
         self.parts.may_linux(*event) || self.parts.may_kernel(*event)
     }
 
-    /// Makes room for the event. The state stays, also when it is refused. `NotBuilt` comes exactly where what the event does is not
-    /// built.
-    pub fn make_room(&mut self, event: &Event) -> Result<(), Refused>
+    /// Makes room for the event. The state stays, also when it is refused.
+    pub fn make_room(&mut self, event: &Event) -> Result<(), NoMemory>
         ensures state { pair_of T.rows F.files self.new.parts ≡ pair_of T.rows F.files self.old.parts }
         ensures room { OnOk result (HasRoom T.rows T.has_room F.room F.can_write F.files event.now self.new.parts) }
-        ensures not_built { IsErrOf result NotBuilt ↔ built (pair_of T.rows F.files self.old.parts) event.now ≡ false }
+        ensures place { OnOk result (HasPlace event.now (vec_capacity self.new.pids - vec_len self.new.pids)) }
     {
-        if !is_built(&self.parts, *event) {
-            return Err(Refused::NotBuilt);
-        }
-        make_room(&mut self.parts, *event)?;
-        Ok(())
+        make_place(&mut self.pids, *event)?;
+        make_room(&mut self.parts, self.alloc, *event)
     }
 
-    /// The event happens, for which room was made.
-    pub fn apply(&mut self, event: &Event)
+    /// The event happens, for which room was made. The answer is how many instructions it executed.
+    pub fn apply(&mut self, event: &Event) -> u64
         requires may { may (pair_of T.rows F.files self.old.parts) event.now ≡ true }
         requires room { HasRoom T.rows T.has_room F.room F.can_write F.files event.now self.old.parts }
-        ensures { pair_of T.rows F.files self.new.parts ≡ after (pair_of T.rows F.files self.old.parts) event.now }
+        requires place { HasPlace event.now (vec_capacity self.old.pids - vec_len self.old.pids) }
+        ensures after { pair_of T.rows F.files self.new.parts ≡ after (pair_of T.rows F.files self.old.parts) event.now }
+        ensures executed { result ≡ executed (pair_of T.rows F.files self.old.parts) event.now }
     {
-        happen(&mut self.parts, self.alloc, *event);
+        let next = Pid(self.parts.lwk.node.next_number());
+        let executed = happen(&mut self.parts, self.alloc, *event);
+        note_made(&mut self.pids, &self.parts, next);
+        executed
     }
+
+    /// The state is one that the two kernels reach.
+    pub fn reached(&self)
+        ensures { IsReached (pair_of T.rows F.files self.now.parts) }
+    {}
 }

@@ -7,4 +7,4 @@ use Rattle.std.proofs.Common.{ap, ◌∙◌}
 pub returns : goal.returns
 returns c =
     let t = c.args.t.0 in
-    did_alone c.args.node.now c.raised.new.self _ (λ files. c.raised.ensures.node files ∙ ap (λ s. raised t s (node_of c.args.node.now files)) c.signal_of.ensures.is)
+    did_alone c.args.node.now c.raises_number.new.node _ (λ files. c.raises_number.ensures.node files ∙ ap (λ s. raised t s (node_of c.args.node.now files)) c.signal_of.ensures.is)

@@ -4,28 +4,27 @@ use Rattle.kernel_model.specs.OneKernel.{input_of, with_consoles}
 use Rattle.mck_word.specs.Lists.{count_from}
 use Rattle.mck_word.specs.MapLaws.{at-none}
 use Rattle.mck_word.specs.Maps.{Map, at}
-use Rattle.one_files.specs.Seen.{seen}
 use Rattle.pair_core.proofs.BootFiles.{NoneFrom, console-none}
 use Rattle.pair_core.proofs.boot_files.add_consoles.Goals as goal
 use Rattle.std.proofs.Common.{List, ap, arith, length, subst, sym, ℕ, ◌+◌, ◌∙◌}
 
 pub loop-more-init : goal.loop-more-init
-loop-more-init c =
+loop-more-init g c =
     let all = c.as_slice-rest.ensures in
     let long = ap length all in
     record {
-      left = ap (λ (gs : List GuestLine). with_consoles c.args.job.now (count_from 1 (length gs)) (seen c.args.files.now)) all;
+      left = ap (λ (gs : List GuestLine). with_consoles c.args.job.now (count_from 1 (length gs)) (g.F.FileStore.files c.args.files.now)) all;
       none = λ p l. ap (λ (m : Map (Map ℕ)). at m p) c.requires.none ∙ at-none p;
       few = omega (arith, long, c.requires.few);
     }
 
 pub loop-more-preserved : goal.loop-more-preserved
-loop-more-preserved c =
+loop-more-preserved g c =
     let was = c.loop-more.invariant in
     let split = c.in-Some.ensures.cases.0 in
     let job = c.args.job.now in
     let guest = c.loop-more.guest in
-    let files = seen c.loop-more.files in
+    let files = g.F.FileStore.files c.loop-more.files in
     let next = c.in_ok-process.ensures.ok ∙ ap (λ (input : List ℕ). with_console guest input files) c.input_of.ensures in
     let long = ap length split in
     record {

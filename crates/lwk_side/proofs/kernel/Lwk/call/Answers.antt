@@ -4,7 +4,7 @@ use Rattle.kernel_model.specs.Plans as plans
 use Rattle.kernel_model.specs.Progress.{starting}
 use Rattle.kernel_model.specs.Traps.{Begins, Trapped, cloned, past_ecall, planned}
 use Rattle.lwk_side.proofs.kernel.Lwk.call.Goals as goal
-use Rattle.lwk_side.specs.Built.{is_delegated}
+use Rattle.lwk_side.specs.Begins.{is_delegated}
 use Rattle.lwk_side.specs.Changing.{HasTrappedRoom, memory_call}
 use Rattle.lwk_side.specs.Shown.{here_of}
 use Rattle.lwk_views.specs.Views.{seen}

@@ -39,3 +39,13 @@ returns-clause-event g c = λ r.
       born = None;
     })
     ∙ sym law
+
+pub returns-clause-executed : goal.returns-clause-executed
+returns-clause-executed g c = λ r.
+    let rows = g.T.PageTable.rows c.args.task.now.space.table in
+    let h = here_of c.args.self.now rows c.args.task.now c.args.channel.now r in
+    let node = node_of c.args.self.now.node r.files in
+    let before = c.args.self.now.frames in
+    c.run-count.ensures.count
+    ∙ ap (λ x. executed_count c.args.most x (memory rows before)) (c.regs-regs.ensures r.files)
+    ∙ sym (c.a_run_is_the_event.ensures.count c.args.most c.args.t.0 h (thread_of node c.args.t.0) before (there (at node.threads c.args.t.0) no_thread (c.requires.lives r.files)) refl)

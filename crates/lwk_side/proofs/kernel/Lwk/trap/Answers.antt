@@ -1,22 +1,15 @@
 use Rattle.hybrid_model.specs.Lwk.{ran_last}
-use Rattle.isa_model.specs.Registers.{reg}
 use Rattle.kernel_model.specs.Nodes.{stop_in, thread_of}
 use Rattle.kernel_model.specs.Traps.{Trapped, trap, trap_of_stop}
 use Rattle.kernel_model.specs.declared.Does.{Does}
 use Rattle.lwk_node.specs.Shown.{node_of}
 use Rattle.lwk_side.proofs.Planned.{after-stop}
 use Rattle.lwk_side.proofs.kernel.Lwk.trap.Goals as goal
-use Rattle.lwk_side.specs.Built.{is_built_stop}
 use Rattle.lwk_side.specs.Changing.{HasTrappedRoom}
 use Rattle.lwk_side.specs.Shown.{here_of}
 use Rattle.lwk_views.specs.Views.{seen}
 use Rattle.std.proofs.Common.{ap, subst, sym, ◌∙◌}
 use Rattle.std.specs.Prelude.{length}
-
-pub trap_of_stop-requires-clause-built : goal.trap_of_stop-requires-clause-built
-trap_of_stop-requires-clause-built g c = λ files.
-    let regs = (thread_of (node_of c.args.self.now.node files) c.args.t.0).regs in
-    ap (λ (d : Does). is_built_stop (reg regs 17) (stop_in d)) (sym c.in-Stopped.is ∙ c.does.ensures files) ∙ c.requires.built files
 
 pub trap_of_stop-requires-clause-change : goal.trap_of_stop-requires-clause-change
 unfolding trap

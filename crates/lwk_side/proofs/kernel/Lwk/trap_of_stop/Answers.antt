@@ -6,9 +6,9 @@ use Rattle.kernel_model.specs.Nodes.{thread_of}
 use Rattle.kernel_model.specs.Plans.{plan}
 use Rattle.kernel_model.specs.Traps.{Trapped, arguments_of, past_ecall, planned, trap_of_stop}
 use Rattle.lwk_node.specs.Shown.{node_of}
-use Rattle.lwk_side.proofs.Planned.{raises-signal, signal-there}
+use Rattle.lwk_side.proofs.Planned.{raises-signal}
 use Rattle.lwk_side.proofs.kernel.Lwk.trap_of_stop.Goals as goal
-use Rattle.lwk_side.specs.Built.{begins_at, is_built_call, is_built_stop, names_delegated}
+use Rattle.lwk_side.specs.Begins.{begins_at, names_delegated}
 use Rattle.lwk_side.specs.Cloning.{forks_at, names_fork}
 use Rattle.lwk_side.specs.Changing.{HasTrappedRoom}
 use Rattle.lwk_side.specs.Shown.{here_of}
@@ -16,12 +16,6 @@ use Rattle.lwk_views.specs.Views.{seen}
 use Rattle.mck_word.specs.declared.Regs.{Regs}
 use Rattle.std.proofs.Common.{ap, subst, sym, ◌∙◌}
 use Rattle.std.specs.Prelude.{Some, length}
-
-pub call-requires-clause-built : goal.call-requires-clause-built
-call-requires-clause-built g c =
-    let regs = (thread_of (node_of c.args.self.now.node root_only) c.args.t.0).regs in
-    ap (λ (x : Regs). is_built_call (reg x 17)) (c.regs-regs.ensures root_only)
-    ∙ ap (λ (s : Stop). is_built_stop (reg regs 17) (Some s)) (sym c.in-Ecall.is) ∙ c.requires.built root_only
 
 pub call-requires-clause-place : goal.call-requires-clause-place
 call-requires-clause-place g c = λ e. c.requires.place root_only
@@ -48,10 +42,6 @@ call-requires-clause-change g c = λ files.
     let made = ap (λ (s : Stop). trap_of_stop t free v (Some s)) c.in-Ecall.is ∙ ap (λ (x : Regs). planned t free x (past_ecall t v) (plan (reg x 17) (arguments_of x))) (sym (c.regs-regs.ensures files)) in
     subst (λ (x : Trapped). HasTrappedRoom (g.T.PageTable.has_room own.table) own.areas.spare c.args.p.0 x) made (c.requires.change files)
 
-pub raises_signal-requires-clause-signal : goal.raises_signal-requires-clause-signal
-raises_signal-requires-clause-signal g c =
-    signal-there (reg (thread_of (node_of c.args.self.now.node root_only) c.args.t.0).regs 17) c.args.stop (c.requires.built root_only) (λ e. absurd (c.in_default.not-Ecall e))
-
 pub returns-in-Ecall-clause-after : goal.returns-in-Ecall-clause-after
 returns-in-Ecall-clause-after g c = λ r.
     let p = c.args.p.0 in
@@ -69,4 +59,4 @@ returns-in_default-clause-after g c = λ r.
     let t = c.args.t.0 in
     let free = length h.free in
     c.raises_signal.ensures.after c.args.channel.now r
-    ∙ ap (λ (x : Trapped). trapped p t x h) (sym (raises-signal t free (reg (thread_of (node_of c.args.self.now.node root_only) t).regs 17) (view_here h) c.args.stop (c.requires.built root_only) (λ e. absurd (c.in_default.not-Ecall e))))
+    ∙ ap (λ (x : Trapped). trapped p t x h) (sym (raises-signal t free (view_here h) c.args.stop (λ e. absurd (c.in_default.not-Ecall e))))

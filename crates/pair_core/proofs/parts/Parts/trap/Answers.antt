@@ -4,7 +4,7 @@ use Rattle.kernel_model.specs.Traps.{trap}
 use Rattle.lwk_side.specs.Changing.{HasTrappedRoom}
 use Rattle.lwk_views.specs.Views.{seen}
 use Rattle.mck_word.specs.Maps.{at}
-use Rattle.pair_core.proofs.Begun.{begins-any, begun-posts}
+use Rattle.pair_core.proofs.Begun.{begins-any, begun-posts, stopped-any}
 use Rattle.pair_core.proofs.Clones.{may-clone}
 use Rattle.pair_core.proofs.Found.{after-is, has-row, may-here}
 use Rattle.pair_core.proofs.KernelFacts.{kept-after, process-is, side-is, sound-table, wired}
@@ -51,7 +51,7 @@ trap-requires g c =
       rest = λ files e. may-rest x.lwk.node (g.F.FileStore.files x.files) t sound.coherent.sleeping sound.coherent.places may c.requires.room.sleeper;
       clone = λ files e. may-clone g.T.PageTable.rows g.F.FileStore.files x t sound may c.requires.room.thread;
       no_fork = c.requires.no_fork;
-      built = c.requires.built;
+      stopped = λ files. stopped-any x.lwk.node t (g.F.FileStore.files x.files) files may;
       own = λ files. sym (c.process_of_thread-p.ensures files);
       heap = heap-in g.T.PageTable.rows g.F.FileStore.files x sound p;
       change = λ files. subst (λ (q : ℕ). HasTrappedRoom (g.T.PageTable.has_room s.task.space.table) s.task.space.areas.spare q (trap t (length x.lwk.pool.free) (seen (g.T.PageTable.rows s.task.space.table) x.lwk.node x.lwk.frames files))) process

@@ -1,22 +1,49 @@
 use Rattle.hybrid_model.specs.Pairs.{Pair}
+use Rattle.hybrid_model.specs.declared.events.Event.{Event}
+use Rattle.kernel_model.specs.Nodes.{has_process}
 use Rattle.mck_word.specs.Maps.{keys}
+use Rattle.mck_word.specs.declared.Pid.{Pid}
 use Rattle.pair_core.specs.Ready.{Ready}
 use Rattle.pair_core.specs.Shown.{pair_of}
-use Rattle.pair_node.proofs.BuiltEvents.{keys-same}
+use Rattle.pair_node.proofs.Numbered.{begins-by-trap, keys-after, numbers-added}
+use Rattle.pair_node.proofs.Shows.{next-is}
 use Rattle.pair_node.proofs.Sound.{sound-after, sound-told, told-along}
 use Rattle.pair_node.proofs.pair.Pair.apply.Goals as goal
-use Rattle.std.proofs.Common.{ap, sym, ◌∙◌}
+use Rattle.pair_node.specs.Room.{HasPlace}
+use Rattle.std.proofs.Common.{ap, arith, subst, sym, ◌∙◌}
+use Rattle.std.specs.Prelude.{[], cond, map, vec_len, ◌++◌, ◌-◌, ◌∷◌, ◌≤◌}
+use Rattle.std.specs.Vec.{vec_capacity}
 
-pub happen-requires-clause-ready : goal.happen-requires-clause-ready
-happen-requires-clause-ready g c = record { sound = sound-told (pair_of g.T.PageTable.rows g.F.FileStore.files c.args.self.now.parts) c.args.self.now.sound; may = c.requires.may }
+pub happen-executed-requires-clause-ready : goal.happen-executed-requires-clause-ready
+happen-executed-requires-clause-ready g c = record { sound = sound-told (pair_of g.T.PageTable.rows g.F.FileStore.files c.args.self.now.parts) c.args.self.now.sound; may = c.requires.may }
+
+pub note_made-requires : goal.note_made-requires
+note_made-requires g c = λ made.
+    let x = c.args.self.now.parts in
+    let files = g.F.FileStore.files in
+    let pair = pair_of g.T.PageTable.rows files x in
+    let event = c.args.event.now in
+    let sound = sound-told pair c.args.self.now.sound in
+    let next = next-is g.T.PageTable.rows files x c.next_number.result c.next_number.ensures in
+    let there = (λ i. has_process (sym c.happen-executed.ensures.after i).node (sym next i)) ∙ made in
+    let trap = begins-by-trap pair sound.coherent event c.requires.may there in
+    let room : 1 ≤ vec_capacity c.args.self.now.pids - vec_len c.args.self.now.pids = subst (λ (e : Event). HasPlace e (vec_capacity c.args.self.now.pids - vec_len c.args.self.now.pids)) trap.1 c.requires.place in
+    omega (arith, room)
 
 pub invariant_of-self : goal.invariant_of-self
 invariant_of-self g c =
-    let pair = pair_of g.T.PageTable.rows g.F.FileStore.files c.args.self.now.parts in
+    let x = c.args.self.now.parts in
+    let files = g.F.FileStore.files in
+    let pair = pair_of g.T.PageTable.rows files x in
     let event = c.args.event.now in
     let ready : Ready pair event = record { sound = sound-told pair c.args.self.now.sound; may = c.requires.may } in
+    let next = next-is g.T.PageTable.rows files x c.next_number.result c.next_number.ensures in
+    let q : Pid = record { 0 = c.next_number.result } in
     record {
-      sound = told-along c.happen.ensures.after (sound-after pair event ready);
-      kept = c.happen.ensures.kept;
-      numbered = c.args.self.now.numbered ∙ sym (ap (λ (x : Pair). keys x.node.processes) c.happen.ensures.after ∙ keys-same pair event ready.sound.coherent c.requires.may c.requires.room.is_built);
+      sound = told-along c.happen-executed.ensures.after (sound-after pair event ready);
+      kept = c.happen-executed.ensures.kept;
+      numbered = ap (map (λ (p : Pid). p.0)) c.note_made.ensures
+          ∙ numbers-added (has_process (pair_of g.T.PageTable.rows files c.happen-executed.new.parts).node q.0) c.args.self.now.pids.items q
+          ∙ (λ i. cond (has_process (c.happen-executed.ensures.after i).node (next i)) (c.args.self.now.numbered i ++ next i ∷ []) (c.args.self.now.numbered i))
+          ∙ sym (ap (λ (y : Pair). keys y.node.processes) c.happen-executed.ensures.after ∙ keys-after pair ready.sound.coherent event c.requires.may);
     }

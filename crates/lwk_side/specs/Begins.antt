@@ -1,0 +1,25 @@
+-- Which traps begin a delegated call.
+use Rattle.isa_model.specs.Registers.{reg}
+use Rattle.isa_model.specs.declared.stops.Stop.{Stop}
+use Rattle.isa_model.specs.declared.stops.Stop.TheVariants.{Ecall}
+use Rattle.kernel_model.specs.Nodes.{Node, stop_in, thread_of}
+use Rattle.kernel_model.specs.Plans.{Delegated, Plan, plan}
+use Rattle.kernel_model.specs.Traps.{arguments_of}
+use Rattle.mck_word.specs.declared.Regs.{Regs}
+use Rattle.std.specs.Prelude.{Bool, Option, Some, false, true, ℕ}
+
+abbrev pub is_delegated : Plan → Bool
+is_delegated (Delegated phases) = true
+is_delegated _ = false
+
+-- the call that the registers name is delegated
+abbrev pub names_delegated : Regs → Bool
+names_delegated r = is_delegated (plan (reg r 17) (arguments_of r))
+
+abbrev pub begins_at : Regs → Option Stop → Bool
+begins_at r (Some Ecall) = names_delegated r
+begins_at r _ = false
+
+-- the trap of the thread begins a delegated call
+abbrev pub begins_call : Node → ℕ → Bool
+begins_call node t = let x = thread_of node t in begins_at x.regs (stop_in x.does)
