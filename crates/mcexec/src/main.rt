@@ -2,22 +2,20 @@
 //! The status's line goes to standard error, and its number is the exit status.
 //!
 //! Promises: over any host and sink, `answer` meets the table of statuses (mcexec_run, Outcome) with the two kernels of pair_node, page tables
-//! as sorted rows and the plain store of files. In it stands, for each journal that a walk keeps, the whole main theorem (hybrid_model, Claims).
+//! of three levels and the store of files of the Linux side. In it stands, for each journal that a walk or a replay keeps, the whole main theorem (hybrid_model, Claims).
 //! What the system gives under a name, and what becomes of what it takes, no clause says.
 #![tactic(auto)]
 
-ghost use Rattle.mcexec_run.specs.Chain.{prepared};
-ghost use Rattle.mcexec_run.specs.Commands.{command_of, second_word};
-ghost use Rattle.mcexec_run.specs.Outcome.{CallOutcome};
+ghost use Rattle.mcexec_run.specs.Calls.{CallCompletes, CallOutcome};
+ghost use Rattle.mcexec_run.specs.Commands.{command_of, second_word, third_word};
 ghost use Rattle.mck_report.specs.Status.{number_of};
 ghost use Rattle.outside.specs.Outside.{HostGoesOn, WhereTold};
-ghost use Rattle.pair_node.specs.Built.{built};
 ghost use Rattle.std.specs.Prelude.{◌≡◌, ◌≤◌};
 ghost use Rattle.std.specs.Process.{exit_status};
 
+use linux_files::LinuxFiles;
 use mcexec_run::{Ended, mcexec};
 use mck_report::{Status, status_line, status_number};
-use one_files::RowFiles;
 use outside::{Host, Sink};
 use pair_node::Pair;
 use std::alloc::Global;
@@ -28,14 +26,15 @@ use std_outside::{FsHost, StdSink};
 use sv_table::SvTable;
 
 /// The node that is run.
-type Node = Pair<SvTable, RowFiles>;
+type Node = Pair<SvTable, LinuxFiles>;
 
 /// Runs the command that the words are.
 fn answer<H: Host, S: Sink>(alloc: Global, words: &[String], host: &mut H, sink: &mut S) -> Ended
     ensures goes_on { HostGoesOn H.holds H.faults host.old host.new }
     ensures rises { S.faults sink.old ≤ S.faults sink.new }
     ensures outcome { WhereTold (H.holds host.old) (λ held.
-        CallOutcome built (command_of words.now) (prepared held (second_word words.now)) result.status result.journal (S.taken sink.old) (S.taken sink.new)) }
+        CallOutcome (command_of words.now) (second_word words.now) (third_word words.now) held result.status result.journal (S.taken sink.old) (S.taken sink.new)) }
+    ensures complete { WhereTold (H.holds host.old) (λ held. CallCompletes (command_of words.now) (second_word words.now) (third_word words.now) held result.status result.journal) }
 {
     mcexec::<Node, H, S>(alloc, words, host, sink)
 }

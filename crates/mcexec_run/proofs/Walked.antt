@@ -6,9 +6,9 @@ use Rattle.hybrid_model.specs.declared.events.Event.{Event}
 use Rattle.ihk_parts.specs.Turns.{chosen, event_of, first_turn, generator, turn_after, turn_at, word, words_of}
 use Rattle.ihk_parts.specs.declared.turn.Turn.TheVariants.{Drawn, Round}
 use Rattle.ihk_parts.specs.declared.turn.Turn.{Turn}
-use Rattle.mcexec_run.specs.Walking.{Follows, StopsAt, walker_at}
+use Rattle.mcexec_run.specs.Walking.{Follows, walker_at}
 use Rattle.run_model.specs.Walks.{Chosen, Walker, moved, next_choice, walk_for}
-use Rattle.std.proofs.Common.{Bool, List, None, Option, Some, add-one, ap, arith, cond, false, length, refl, subst, suc, sym, true, ℕ, [], ◌&&◌, ◌+◌, ◌++◌, ◌==◌, ◌∙◌, ◌∷◌, ◌≡◌, zero}
+use Rattle.std.proofs.Common.{Bool, List, None, Option, Some, add-one, ap, cond, false, length, refl, subst, suc, sym, true, ℕ, [], ◌&&◌, ◌+◌, ◌++◌, ◌==◌, ◌∙◌, ◌∷◌, ◌≡◌, zero}
 use Rattle.std.specs.Option.{MatchOption, option_map}
 
 -- ---- one event more
@@ -29,7 +29,7 @@ follows_on t s js js' turn turn' pair pair' c e f h k j u p =
     subst (λ xs. Follows t s xs turn' pair') (sym js-is) (subst (λ x. Follows t s (js ++ c.event ∷ []) x pair') (sym u)
     (subst (λ x. Follows t s (js ++ c.event ∷ []) (turn_after turn c) x) (sym pair-is) (follows_more t s js turn pair c f h)))
 
-both_true : (b c : Bool) → (b && c) ≡ true → (b ≡ true) × (c ≡ true)
+pub both_true : (b c : Bool) → (b && c) ≡ true → (b ≡ true) × (c ≡ true)
 both_true true c e = (refl, e)
 both_true false c e = cc
 
@@ -118,18 +118,3 @@ front order pair js last end f = front_at order (walker_at pair) js last end f
 
 pub whole : (order : ℕ) (pair : Pair) (js : List Event) (last : Turn) (end : Pair) → Follows (first_turn order) pair js last end → chosen last end ≡ None → walk_for (words_of order) (length js + 1) (walker_at pair) ≡ js
 whole order pair js last end f n = ap (λ k. walk_for (words_of order) k (walker_at pair)) (add-one (length js)) ∙ whole_at order (walker_at pair) js last end f n
-
--- ---- where a walk stops
-
-length_more : (js : List Event) (e : Event) → length (js ++ e ∷ []) ≡ length js + 1
-length_more [] e = refl
-length_more (x ∷ xs) e = let h = length_more xs e in omega arith
-
-pub stops : (built : Pair → Event → Bool) (order : ℕ) (pair : Pair) (js : List Event) (last : Turn) (end : Pair) (c : Chosen) (e : Event) → Follows (first_turn order) pair js last end → chosen last end ≡ Some c → e ≡ c.event
-    → end ≡ state pair js → built end e ≡ false → StopsAt built order pair js
-stops built order pair js last end c e f h k s b = record {
-  event = e;
-  turn = ap (λ n. walk_for (words_of order) n (walker_at pair)) (sym (length_more js c.event))
-      ∙ (front order pair (js ++ c.event ∷ []) (turn_after last c) (after end c.event) (follows_more (first_turn order) pair js last end c f h) ∙ ap (λ x. js ++ x ∷ []) (sym k));
-  unbuilt = subst (λ x. built x e ≡ false) s b;
-}

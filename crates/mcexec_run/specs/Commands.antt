@@ -5,7 +5,7 @@ use Rattle.mcexec_run.specs.declared.command.Command.TheVariants.{Run, Walk, Rep
 use Rattle.mcexec_run.specs.declared.command.Form.{Form}
 use Rattle.mcexec_run.specs.declared.command.Form.TheVariants.{Report, Trace}
 use Rattle.std.specs.Cmp.Lexicographic.{pointwise}
-use Rattle.std.specs.Prelude.{ℕ, ◌&&◌, nat_le, List, [], ◌∷◌, Bool, cond, Option, Some, None, nat_eq, String, string_bytes, codes, if◌then◌else◌}
+use Rattle.std.specs.Prelude.{ℕ, ◌≤◌, ◌&&◌, nat_le, List, [], ◌∷◌, Bool, cond, Option, Some, None, nat_eq, String, string_bytes, codes, if◌then◌else◌}
 use Rattle.std.specs.declared.alloc.Global.{Global}
 
 abbrev pub Words : Type 0
@@ -67,8 +67,19 @@ command_of (first ∷ second ∷ rest) =
     else (if is_word (codes "run") first then run_words rest
     else (if is_word (codes "grow") first then grow_words second rest else None)))))
 
+-- what a command asks: from 1 to 16 guests
+abbrev pub IsAsked : Command → Type 0
+IsAsked (Grow guests order) = (1 ≤ guests) × (guests ≤ 16)
+IsAsked _ = Unit {0}
+
 -- the second word, JOB or N, and the third, TRACE
 abbrev pub second_word : Words → List ℕ
 second_word [] = []
 second_word (first ∷ []) = []
 second_word (first ∷ second ∷ rest) = string_bytes second
+
+abbrev pub third_word : Words → List ℕ
+third_word [] = []
+third_word (first ∷ []) = []
+third_word (first ∷ second ∷ []) = []
+third_word (first ∷ second ∷ third ∷ rest) = string_bytes third

@@ -1,5 +1,13 @@
+pub mod Auditing
+pub mod Audits
 pub mod Booting
+pub mod Calls
 pub mod Chain
 pub mod Commands
+pub mod Growing
+pub mod Lockstep
+pub mod OneCodes
 pub mod Outcome
+pub mod Replaying
 pub mod Walking
+pub mod Writing

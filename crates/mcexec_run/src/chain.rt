@@ -36,8 +36,8 @@ pub struct Fetched {
     pub inputs: Items<InputLine>,
 }
 
-// The bytes of a name.
-fn fetch_name<H: Host>(alloc: Global, host: &mut H, name: &[u8]) -> Result<Vec<u8>, Status>
+/// The bytes of a name.
+pub fn fetch_name<H: Host>(alloc: Global, host: &mut H, name: &[u8]) -> Result<Vec<u8>, Status>
     requires { IsUtf8 name.now }
     ensures goes_on { HostGoesOn H.holds H.faults host.old host.new }
     ensures refusal { IfErr result IsRefusal }

@@ -1,7 +1,7 @@
 // The words of the program, and the command that they are.
-ghost use Rattle.mcexec_run.specs.Commands.{check_words, command_of, grow_with, grow_words, order_word, run_words, two_names, walk_words};
+ghost use Rattle.mcexec_run.specs.Commands.{IsAsked, command_of, grow_with, grow_words, order_word, run_words, two_names, walk_words};
 ghost use Rattle.mck_word.specs.Numbers.{number_of};
-ghost use Rattle.std.specs.Prelude.{◌≡◌, ◌≤◌, IfSome, length, string_bytes};
+ghost use Rattle.std.specs.Prelude.{◌≡◌, IfSome, string_bytes};
 
 use mck_word::read_number;
 
@@ -25,14 +25,16 @@ pub enum Command {
 }
 
 fn order_word(word: &String, form: Form) -> Option<Command>
-    ensures { result ≡ order_word word.now form }
+    ensures value { result ≡ order_word word.now form }
+    ensures asked { IfSome result IsAsked }
 {
     let order = read_number(word.as_str().as_bytes())?;
     Some(Command::Walk { order, form })
 }
 
 fn walk_words(words: &[String]) -> Option<Command>
-    ensures { result ≡ walk_words words.now }
+    ensures value { result ≡ walk_words words.now }
+    ensures asked { IfSome result IsAsked }
 {
     let Some((third, rest)) = words.split_first() else {
         return Some(Command::Walk {
@@ -57,7 +59,8 @@ fn walk_words(words: &[String]) -> Option<Command>
 }
 
 fn run_words(words: &[String]) -> Option<Command>
-    ensures { result ≡ run_words words.now }
+    ensures value { result ≡ run_words words.now }
+    ensures asked { IfSome result IsAsked }
 {
     let Some((third, rest)) = words.split_first() else {
         return Some(Command::Run { form: Form::Report });
@@ -70,14 +73,17 @@ fn run_words(words: &[String]) -> Option<Command>
 }
 
 fn two_names(command: Command, words: &[String]) -> Option<Command>
-    ensures { result ≡ two_names command words.now }
+    requires { IsAsked command }
+    ensures value { result ≡ two_names command words.now }
+    ensures asked { IfSome result IsAsked }
 {
     let (_trace, rest) = words.split_first()?;
     if rest.is_empty() { Some(command) } else { None }
 }
 
 fn grow_with(guests: Option<u64>, order: Option<u64>) -> Option<Command>
-    ensures { result ≡ grow_with guests order }
+    ensures value { result ≡ grow_with guests order }
+    ensures asked { IfSome result IsAsked }
 {
     let guests = guests?;
     let order = order?;
@@ -98,7 +104,8 @@ fn number(word: &String) -> Option<u64>
 }
 
 fn grow_words(count: &String, words: &[String]) -> Option<Command>
-    ensures { result ≡ grow_words count.now words.now }
+    ensures value { result ≡ grow_words count.now words.now }
+    ensures asked { IfSome result IsAsked }
 {
     let Some((third, rest)) = words.split_first() else {
         return grow_with(number(count), Some(0));
@@ -113,7 +120,7 @@ fn grow_words(count: &String, words: &[String]) -> Option<Command>
 /// The command that the words are, if they fit one.
 pub fn read_command(words: &[String]) -> Option<Command>
     ensures value { result ≡ command_of words.now }
-    ensures second { IfSome result (λ _. 2 ≤ length words.now) }
+    ensures asked { IfSome result IsAsked }
 {
     let (first, rest) = words.split_first()?;
     let (second, rest) = rest.split_first()?;

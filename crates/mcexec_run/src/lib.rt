@@ -1,21 +1,39 @@
-//! The top calls of the program: the command that the words are, the chain of refusals before a run, the walk, and what each call
-//! answers, keeps and writes.
+//! The top calls of the program: the command that the words are, the chain of refusals before a run, the walk, the replay and the audit
+//! of a trace, and what each call answers, keeps and writes.
 //!
 //! Promises: each status has its cause as a clause, and the outcome of a call is one relation with a case for each row of the table
-//! of statuses; a walk's journal is the one that its order names, legal, up to where no event is offered, and its text is written
-//! byte for byte. Of every journal that a walk keeps the whole main theorem holds (hybrid_model, Claims). A walk that comes to an event
-//! which is not built keeps its journal so far and says so. The calls are over any `Machine`. The definitions stand in specs/: Commands,
-//! Chain, Walking, Outcome.
+//! of statuses; a walk's journal is the one that its order names, up to where no event is offered, and a replay's the one that its trace
+//! spells; each is legal, and its text is written byte for byte. Of every journal that is kept the whole main theorem holds (hybrid_model,
+//! Claims). An audit runs the one-kernel machine over the steps that the journal's events stand for, prints from it and hands it out; it
+//! writes what a replay writes. The calls are over any `Machine` and any `SingleKernel`. The definitions stand in specs/: Commands and
+//! Chain (what stands before a run), Walking, Replaying, Growing, Audits (what each comes to), Outcome and Calls (the table), Auditing
+//! and Lockstep (the two machines side by side).
 #![tactic(auto)]
 
+mod audits;
 mod calls;
 mod chain;
+mod checks;
 mod command;
+mod lockstep;
 mod machine;
+mod replaying;
+mod replays;
+mod single;
+mod stages;
 mod walking;
+mod walks;
 
-pub use calls::{Ended, check, mcexec, walk};
+pub use audits::{Audited, audit};
+pub use calls::{Ended, mcexec};
 pub use chain::{Fetched, Prepared, gather};
+pub use checks::check;
 pub use command::{Command, Form, read_command};
-pub use machine::{BootError, Machine, Refused};
+pub use lockstep::Lockstep;
+pub use machine::{BootError, Machine};
+pub use replaying::{Refusal, replay_trace};
+pub use replays::{Replayed, replay, replay_job};
+pub use single::SingleKernel;
+pub use stages::Text;
 pub use walking::walk_journal;
+pub use walks::{grow, walk};

@@ -1,24 +1,26 @@
-// What the top calls ask of the two kernels.
+// What the top calls ask of the two kernels, and of the one-kernel machine.
 ghost use Rattle.hybrid_model.specs.Boot.{Shortage, boot, shortage};
 ghost use Rattle.hybrid_model.specs.Events.{after, may};
+ghost use Rattle.hybrid_model.specs.Images.{image};
 ghost use Rattle.hybrid_model.specs.Journals.{ending};
 ghost use Rattle.hybrid_model.specs.Pairs.{Pair};
 ghost use Rattle.hybrid_model.specs.Shown.{one};
 ghost use Rattle.hybrid_model.specs.declared.events.Ending.TheVariants.{Unfinished};
 ghost use Rattle.hybrid_model.specs.declared.events.Event.{Event};
 ghost use Rattle.job_model.specs.Prepared.{IsPrepared};
+ghost use Rattle.mcexec_run.specs.Auditing.{IsReached, executed, steps_of};
 ghost use Rattle.mcexec_run.specs.Booting.{BootFails};
-ghost use Rattle.mcexec_run.specs.declared.machine.Refused.TheVariants.{NotBuilt};
 ghost use Rattle.run_model.specs.Reports.{requests};
 ghost use Rattle.run_model.specs.Walks.{actors, first_chosen, offer};
 ghost use Rattle.run_model.specs.declared.actors.Actor.{Actor};
 ghost use Rattle.run_summary.specs.Summaries.{summary_of};
-ghost use Rattle.std.specs.Prelude.{◌≡◌, ◌≢◌, Bool, false, IfOk, IsErrOf, MatchResult, None, OnOk, Some, true};
+ghost use Rattle.std.specs.Prelude.{◌≡◌, ◌≢◌, IfOk, MatchResult, None, OnOk, Some, true};
 
 use elf_load::Image;
 use hybrid_model::{Ending, Event};
 use ihk_parts::Offers;
 use job_text::Job;
+use kernel_model::Step;
 use mck_word::NoMemory;
 use run_summary::Summary;
 use std::alloc::Global;
@@ -30,30 +32,10 @@ pub enum BootError {
     NoMemory,
 }
 
-/// Why no room was made for an event: want of memory, or what the event does is not built yet.
-#[derive(Clone, Copy, Debug, PartialEq, Eq)]
-pub enum Refused {
-    NoMemory,
-    NotBuilt,
-}
-
-impl From<NoMemory> for Refused {
-    ghost use Rattle.mcexec_run.specs.declared.machine.Refused.TheVariants.{NoMemory};
-
-    ghost from_gives = { λ _ e. e ≡ NoMemory };
-
-    fn from(_e: NoMemory) -> Refused {
-        Refused::NoMemory
-    }
-}
-
 /// The two kernels of a node.
 pub trait Machine: Offers + Drop {
     /// Whether room was made for the event.
     ghost has_room: { Self → Event → Type 0 };
-
-    /// Whether what the event does in that state is built.
-    ghost built: { Pair → Event → Bool };
 
     /// The node at the boot of a job. `NoFrames` names the first guest for which the frames don't suffice.
     fn boot(alloc: Global, job: &Job, images: &[Image]) -> Result<Self, BootError>
@@ -61,19 +43,30 @@ pub trait Machine: Offers + Drop {
         ensures state { IfOk result (λ machine. Self.pair machine ≡ boot job.now images.now) }
         ensures frames { MatchResult result (λ _. shortage job.now images.now ≡ None) (λ e. BootFails e (shortage job.now images.now)) };
 
-    /// Makes room for the event. The state stays, also when it is refused. An event that an actor offers may happen. `NotBuilt` comes
-    /// only where what the event does is not built.
-    fn make_room(&mut self, event: &Event) -> Result<(), Refused>
+    /// Makes room for the event. The state stays, also when it is refused. An event that an actor offers may happen.
+    fn make_room(&mut self, event: &Event) -> Result<(), NoMemory>
         ensures offered { (actor : Actor) → offer (Self.pair self.old) actor ≡ Some event.now → may (Self.pair self.old) event.now ≡ true }
         ensures state { Self.pair self.new ≡ Self.pair self.old }
-        ensures room { OnOk result (has_room self.new event.now) }
-        ensures not_built { IsErrOf result NotBuilt → built (Self.pair self.old) event.now ≡ false };
+        ensures room { OnOk result (has_room self.new event.now) };
 
-    /// The event happens.
-    fn apply(&mut self, event: &Event)
+    /// Whether the event may happen.
+    fn may(&self, event: &Event) -> bool
+        ensures { result ≡ may (Self.pair self.now) event.now };
+
+    /// The step of the one-kernel machine that the event stands for, if there is one; of a Run the step of each of its instructions.
+    fn step_of(&self, event: &Event) -> Option<Step>
+        ensures { image (Self.pair self.now) event.now ≡ steps_of event.now result (executed (Self.pair self.now) event.now) };
+
+    /// The event happens. The answer is how many instructions it executed.
+    fn apply(&mut self, event: &Event) -> u64
         requires may { may (Self.pair self.old) event.now ≡ true }
         requires room { has_room self.old event.now }
-        ensures { Self.pair self.new ≡ after (Self.pair self.old) event.now };
+        ensures after { Self.pair self.new ≡ after (Self.pair self.old) event.now }
+        ensures executed { result ≡ executed (Self.pair self.old) event.now };
+
+    /// The state is one that the two kernels reach.
+    fn reached(&self)
+        ensures { IsReached (Self.pair self.now) };
 
     /// How the run stands. Where no actor has an offer, it is over.
     fn ending(&self) -> Ending

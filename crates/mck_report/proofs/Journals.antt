@@ -29,7 +29,7 @@ same_event e f h k s =
     let p : Some e ≡ Some f = sym (event_of-line e h) ∙ (ap event_of s ∙ event_of-line f k) in cc
 
 -- two texts that begin with events' lines
-same_front : (e f : Event) (xs ys : List ℕ) → Fits e → Fits f → line e ++ xs ≡ line f ++ ys → (e ≡ f) × (xs ≡ ys)
+pub same_front : (e f : Event) (xs ys : List ℕ) → Fits e → Fits f → line e ++ xs ≡ line f ++ ys → (e ≡ f) × (xs ≡ ys)
 same_front e f xs ys h k s =
     let p = same_cut 10 (spaced (words_of e)) (spaced (words_of f)) xs ys (line_lacks e h) (line_lacks f k) (sym (line_then_more e xs) ∙ (s ∙ line_then_more f ys)) in
     (same_event e f h k p.0, p.1)
@@ -38,7 +38,7 @@ not_empty : (xs ys : List ℕ) → xs ++ 10 ∷ ys ≡ [] → ⊥
 not_empty [] ys e = cc
 not_empty (x ∷ xs) ys e = cc
 
-no_line : (e : Event) (more : List ℕ) → line e ++ more ≡ [] → ⊥
+pub no_line : (e : Event) (more : List ℕ) → line e ++ more ≡ [] → ⊥
 no_line e more h = not_empty (spaced (words_of e)) more (sym (line_then_more e more) ∙ h)
 
 abbrev body : List Event → List ℕ
@@ -154,7 +154,7 @@ no_version bytes r c none v rest h e =
     let k : version_of (named v) ≡ Some v = version_of-named v h in
     cc
 
-same_version : (v w : ℕ) (xs ys : List ℕ) → IsVersion v → IsVersion w → part_bytes (version v) ++ xs ≡ part_bytes (version w) ++ ys → (v ≡ w) × (xs ≡ ys)
+pub same_version : (v w : ℕ) (xs ys : List ℕ) → IsVersion v → IsVersion w → part_bytes (version v) ++ xs ≡ part_bytes (version w) ++ ys → (v ≡ w) × (xs ≡ ys)
 same_version v w xs ys h k e =
     let p = same_cut 10 (named v) (named w) xs ys (named_lacks v h) (named_lacks w k) (sym (version_then_more v xs h) ∙ (e ∙ version_then_more w ys k)) in
     let n : Some v ≡ Some w = sym (version_of-named v h) ∙ (ap version_of p.0 ∙ version_of-named w k) in
@@ -180,7 +180,7 @@ both_true : (b c : Bool) → (b && c) ≡ true → (b ≡ true) × (c ≡ true)
 both_true true c e = (refl, e)
 both_true false c e = cc
 
-entries_of : (v : ℕ) (js : List Event) → AllByRecursion Fits js → (v ≡ 1 → list_all is_of_first js ≡ true) → AllByRecursion (IsEntry v) js
+pub entries_of : (v : ℕ) (js : List Event) → AllByRecursion Fits js → (v ≡ 1 → list_all is_of_first js ≡ true) → AllByRecursion (IsEntry v) js
 entries_of v [] h f = tt
 entries_of v (j ∷ js) h f =
     (record { fits = h.0; first = λ e. (both_true (is_of_first j) (list_all is_of_first js) (f e)).0 }, entries_of v js h.1 (λ e. (both_true (is_of_first j) (list_all is_of_first js) (f e)).1))
@@ -242,3 +242,17 @@ named_length first v n = ap length n.text
 pub not_nothing : (xs : List ℕ) → false ≡ (length xs == 0) → xs ≡ [] → ⊥
 not_nothing [] t h = cc
 not_nothing (x ∷ xs) t h = cc
+
+-- ---- the first line, and the first entry
+
+-- no first line, so no version
+pub no_version_cut : (bytes : List ℕ) → cut_at 10 bytes ≡ None → (v : ℕ) (rest : List ℕ) → IsVersion v → bytes ≡ part_bytes (version v) ++ rest → ⊥
+no_version_cut bytes c = let none : Halves = None in no_version bytes none c (λ first rest h. cc)
+
+-- the first line names none
+pub no_version_named : (bytes first rest : List ℕ) → cut_at 10 bytes ≡ Some (first, rest) → version_of first ≡ None → (v : ℕ) (more : List ℕ) → IsVersion v → bytes ≡ part_bytes (version v) ++ more → ⊥
+no_version_named bytes first rest c n =
+    let halves : Halves = Some (first, rest) in no_version bytes halves c (λ f r h. no_named first rest f r halves refl n h)
+
+pub entry_cut : (bytes text more : List ℕ) (e : Event) → cut_at 10 bytes ≡ Some (text, more) → text ≡ spaced (words_of e) → bytes ≡ part_bytes (Line (words_of e)) ++ more
+entry_cut bytes text more e c t = (cut 10 bytes text more c).whole ∙ (ap (λ x. x ++ 10 ∷ more) t ∙ sym (line_then_more e more))

@@ -16,7 +16,7 @@ mod trace_text;
 mod writing;
 
 pub use check_text::{check, needed_frames};
-pub use reading::{TraceError, read_trace};
+pub use reading::{TraceError, read_trace, split_entry, split_version};
 pub use report_text::{grow, report};
 pub use status::{Status, status_number};
 pub use status_text::status_line;

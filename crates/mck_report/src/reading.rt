@@ -2,8 +2,8 @@
 ghost use Rattle.hybrid_model.specs.declared.events.Event.{Event};
 ghost use Rattle.mck_report.specs.Reading.{cut_at, event_of, made_by, ones, numbers_of, one_of, same, small_of, three_of, twos, two_numbers, two_of, two_or_three, two_small, version_of, BrokenBehind, FirstBroken, Fits, IsEntry, IsVersion};
 ghost use Rattle.mck_report.specs.declared.reading.TraceError.TheVariants.{Line};
-ghost use Rattle.run_model.specs.Texts.{spaced, text_of};
-ghost use Rattle.run_model.specs.Traces.{Spells, event_lines, is_of_first, words_of};
+ghost use Rattle.run_model.specs.Texts.{Line as TextLine, part_bytes, spaced, text_of};
+ghost use Rattle.run_model.specs.Traces.{Spells, event_lines, is_of_first, version as version_line, words_of};
 ghost use Rattle.std.specs.List.{AllByRecursion};
 ghost use Rattle.std.specs.Prelude.{◌≡◌, ◌+◌, ◌<◌, ◌^◌, ◌==◌, ◌∷◌, ◌++◌, [], Err, IfOk, IfNone, IfSome, List, MatchOption, MatchResult, None, OnOk, Some, length, position, ℕ};
 
@@ -280,4 +280,33 @@ pub fn read_trace(alloc: Global, bytes: &[u8]) -> Result<Items<Event>, TraceErro
     ensures complete { (journal : List Event) → AllByRecursion Fits journal → Spells bytes.now journal → MatchResult result (λ read. read ≡ journal) (λ e. e ≡ TraceError.NoMemory) }
 {
     read(alloc, bytes)
+}
+
+/// The version that a trace's first line names, and the bytes behind that line. None exactly where the bytes begin with no such line.
+pub fn split_version(bytes: &[u8]) -> Option<(u8, &[u8])>
+    ensures some { IfSome result (λ p. IsVersion p.0 × (bytes.now ≡ part_bytes (version_line p.0) ++ p.1.now)) }
+    ensures none { IfNone result ((v : ℕ) (rest : List ℕ) → IsVersion v → bytes.now ≡ part_bytes (version_line v) ++ rest → ⊥) }
+{
+    let Some((first, rest)) = cut(bytes, b'\n') else {
+        return None;
+    };
+    let Some(version) = version_of(first) else {
+        return None;
+    };
+    Some((version, rest))
+}
+
+/// The event of the first line of bytes, where a trace of the version may have it, and the bytes behind that line. None exactly where
+/// the bytes begin with no entry's line.
+pub fn split_entry(version: u8, bytes: &[u8]) -> Option<(Event, &[u8])>
+    ensures some { IfSome result (λ p. IsEntry version p.0 × (bytes.now ≡ part_bytes (TextLine (words_of p.0)) ++ p.1.now)) }
+    ensures none { IfNone result ((e : Event) (more : List ℕ) → IsEntry version e → bytes.now ≡ part_bytes (TextLine (words_of e)) ++ more → ⊥) }
+{
+    let Some((line, rest)) = cut(bytes, b'\n') else {
+        return None;
+    };
+    let Some(event) = read_entry(version, line) else {
+        return None;
+    };
+    Some((event, rest))
 }

@@ -2,7 +2,8 @@ use Rattle.hybrid_model.specs.Journals.{may_all, state}
 use Rattle.ihk_parts.specs.Turns.{first_turn}
 use Rattle.mcexec_run.proofs.walking.walk_journal.Given as goal
 use Rattle.mcexec_run.specs.Walking.{Follows}
-use Rattle.std.proofs.Common.{length, true, ◌-◌, ◌^◌, ◌≡◌}
+use Rattle.std.proofs.Common.{true, ◌≡◌}
+use Rattle.work_laws.specs.Left.{left}
 
 abbrev pub invariant-steps : goal.invariant-steps
 invariant-steps g l = record {
@@ -12,4 +13,4 @@ invariant-steps g l = record {
 }
 
 abbrev pub decreases-steps : goal.decreases-steps
-decreases-steps g l = 2 ^ 64 - length l.journal
+decreases-steps g l = left (g.M.Offers.pair l.machine)

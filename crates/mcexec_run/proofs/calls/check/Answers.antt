@@ -1,9 +1,0 @@
-use Rattle.hybrid_model.specs.declared.events.Event.{Event}
-use Rattle.mcexec_run.proofs.calls.check.Goals as goal
-use Rattle.mcexec_run.specs.Chain.{prepared}
-use Rattle.mcexec_run.specs.Outcome.{CheckOutcome}
-use Rattle.std.proofs.Common.{List, subst, sym}
-
-pub returns-clause-outcome : goal.returns-clause-outcome
-returns-clause-outcome g c held told =
-    subst (λ (js : List Event). CheckOutcome (prepared held c.args.job.now) c.check_job-status.result js (g.S.Sink.taken c.args.sink.now) (g.S.Sink.taken c.check_job-status.new.sink)) (sym c.new.ensures) (c.check_job-status.ensures.outcome held told)

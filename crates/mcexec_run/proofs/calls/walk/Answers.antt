@@ -1,7 +1,0 @@
-use Rattle.mcexec_run.proofs.Outcomes.{completes}
-use Rattle.mcexec_run.proofs.calls.walk.Goals as goal
-use Rattle.mcexec_run.specs.Chain.{prepared}
-
-pub returns-clause-complete : goal.returns-clause-complete
-returns-clause-complete g c held told =
-    completes g.M.Machine.built (prepared held c.args.job.now) c.args.order c.args.form c.walk_job-status.result c.walk_job-status.new.journal (g.S.Sink.taken c.args.sink.now) (g.S.Sink.taken c.walk_job-status.new.sink) (c.walk_job-status.ensures.outcome held told)

@@ -1,0 +1,36 @@
+-- What an audit asks: the steps that an event stands for, and the states of the one-kernel machine that the two kernels show.
+use Rattle.hybrid_laws.specs.Lasting.{Lasting}
+use Rattle.hybrid_model.specs.Events.{process_of_event}
+use Rattle.hybrid_model.specs.Globals.{Coherent}
+use Rattle.hybrid_model.specs.Lwk.{executed_in_run}
+use Rattle.hybrid_model.specs.Pairs.{Pair, here}
+use Rattle.hybrid_model.specs.Shown.{one}
+use Rattle.hybrid_model.specs.declared.events.Event.TheVariants.{Run}
+use Rattle.hybrid_model.specs.declared.events.Event.{Event}
+use Rattle.kernel_model.specs.OneKernel.{OneKernel}
+use Rattle.kernel_model.specs.declared.steps.Step.{Step}
+use Rattle.offer_laws.specs.Small.{Small}
+use Rattle.std.specs.Prelude.{◌≡◌, ℕ, List, [], ◌∷◌, Option, Some, None, replicate}
+
+-- how many instructions an event executes
+abbrev pub executed : Pair → Event → ℕ
+executed pair (Run core t n) = executed_in_run t.0 n (here pair (process_of_event pair.node (Run core t n)))
+executed pair _ = 0
+
+-- the steps of an event: of a Run one for each instruction
+abbrev pub steps_of : Event → Option Step → ℕ → List Step
+steps_of event None n = []
+steps_of (Run core t most) (Some step) n = replicate n step
+steps_of _ (Some step) n = step ∷ []
+
+-- what holds of each state that the two kernels reach
+abbrev pub IsSound : Pair → Type 0
+IsSound pair = Coherent pair × Lasting pair × Small pair
+
+-- a state that the two kernels reach, as far as it is told
+abbrev pub IsReached : Pair → Type 0
+IsReached pair = ∥ IsSound pair ∥₁
+
+-- a state of the one-kernel machine that such a state shows
+abbrev pub IsShown : OneKernel → Type 0
+IsShown o = ∥ ((pair : Pair) × IsSound pair × (one pair ≡ o)) ∥₁

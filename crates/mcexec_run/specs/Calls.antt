@@ -1,0 +1,37 @@
+-- What the program's call comes to, command by command: each has the clauses of its call. The second word is the job's name, the third the
+-- trace's.
+use Rattle.hybrid_model.specs.declared.events.Event.{Event}
+use Rattle.mcexec_run.specs.Chain.{has_to_fetch, prepared}
+use Rattle.mcexec_run.specs.Growing.{GrowOutcome, grow_text, grown}
+use Rattle.mcexec_run.specs.Outcome.{Answers, CheckOutcome, Completes, CompletesCheck, WalkOutcome, text_at}
+use Rattle.mcexec_run.specs.Replaying.{CompletesReplay, ReplayOutcome, has_to_fetch_both, traced}
+use Rattle.mcexec_run.specs.declared.command.Command.TheVariants.{Audit, Check, Grow, Replay, Run, Walk}
+use Rattle.mcexec_run.specs.declared.command.Command.{Command}
+use Rattle.mck_report.specs.declared.status.Status.TheVariants.{BadWords, NotBuilt}
+use Rattle.mck_report.specs.declared.status.Status.{Status}
+use Rattle.outside.specs.Outside.{Held}
+use Rattle.std.specs.Prelude.{List, [], ℕ, Option, Some, None, Ok}
+
+abbrev pub CallOutcome : Option Command → List ℕ → List ℕ → Held → Status → List Event → Option (List ℕ) → Option (List ℕ) → Type 0
+CallOutcome None job trace held status journal old new = Answers BadWords status journal old new
+CallOutcome (Some (Walk order form)) job trace held status journal old new = WalkOutcome (prepared held job) order (text_at form) status journal old new
+CallOutcome (Some Check) job trace held status journal old new = CheckOutcome (prepared held job) status journal old new
+CallOutcome (Some (Run form)) job trace held status journal old new = Answers NotBuilt status journal old new
+CallOutcome (Some Replay) job trace held status journal old new = ReplayOutcome (traced held job trace) status journal old new
+CallOutcome (Some Audit) job trace held status journal old new = Answers NotBuilt status journal old new
+CallOutcome (Some (Grow guests order)) job trace held status journal old new = GrowOutcome guests order status journal old new
+
+-- what answers where nothing refuses and no fault comes
+abbrev pub CallCompletes : Option Command → List ℕ → List ℕ → Held → Status → List Event → Type 0
+CallCompletes (Some (Walk order form)) job trace held status journal = Completes (prepared held job) order (text_at form) status journal
+CallCompletes (Some Check) job trace held status journal = CompletesCheck (prepared held job) status
+CallCompletes (Some Replay) job trace held status journal = CompletesReplay (traced held job trace) status journal
+CallCompletes (Some (Grow guests order)) job trace held status journal = Completes (Ok (grown guests)) order (grow_text guests) status journal
+CallCompletes _ job trace held status journal = Unit {0}
+
+-- the names that a command has to fetch
+abbrev pub names_to_fetch : Option Command → List ℕ → List ℕ → Held → List (List ℕ)
+names_to_fetch (Some (Walk order form)) job trace held = has_to_fetch held job
+names_to_fetch (Some Check) job trace held = has_to_fetch held job
+names_to_fetch (Some Replay) job trace held = has_to_fetch_both held job trace
+names_to_fetch _ job trace held = []
