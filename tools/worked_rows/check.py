@@ -46,7 +46,8 @@ use Rattle.run_model.specs.Traces.{trace_parts}
 use Rattle.run_model.specs.Walks.{walk_for, start}
 use Rattle.std.proofs.Common.{refl}
 use Rattle.std.specs.Prelude.{ℕ, ◌≡◌, ◌+◌, ◌*◌, List, [], ◌∷◌, ◌++◌, length, true, false, Bool, codes, replicate, take, drop, Option, Some, None, pos, negsuc}
-use Rattle.worked_rows.specs.Checks.{first_wrong, stall_is_shown}
+use Rattle.worked_rows.specs.Additions.{doubleword_of}
+use Rattle.worked_rows.specs.Checks.{additions, first_wrong, only_additions, stall_is_shown}
 use Rattle.worked_rows.specs.Images.{small_image, small_job}
 
 """
@@ -120,7 +121,8 @@ def make_workspace(top):
     (rows / "src" / "lib.rt").write_text(ROOT)
     for name in ("Checks", "Images"):
         shutil.copy(HERE / f"{name}.txt", rows / "specs" / f"{name}.antt")
-    (rows / "specs" / "Lib.antt").write_text("pub mod Images\npub mod Checks\n")
+    shutil.copy(TOP / "crates" / "atomic_laws" / "specs" / "Additions.antt", rows / "specs" / "Additions.antt")
+    (rows / "specs" / "Lib.antt").write_text("pub mod Images\npub mod Additions\npub mod Checks\n")
     return rows
 
 

@@ -11,6 +11,8 @@ ENDED = [(1, "exit 0")]
 ROWS = {}
 # of the rows that are walks in order 0: the guests' words and data, the job, the report and the trace, in plain data
 RUNS = {}
+# of walks in order 0 whose counts depend on the order: the guests, the job, and lines of the report
+LINES = {}
 
 
 class Row:
@@ -51,6 +53,17 @@ class Row:
             self.fact("is_whole", f"length (drop {chunk * chunks} journal)", 0)
         self.fact("no_stall", f"stall_is_shown {self.state()}", "true")
 
+    def additions(self, process, address, total, chunk, chunks):
+        """Nothing happens to a doubleword but atomic additions, and it has their sum at the end."""
+        start = f"(boot the_job {self.images})"
+        parts = []
+        for k in range(chunks):
+            at = f"{process} {address} (take {chunk} (drop {k * chunk} journal)) (state {start} (take {k * chunk} journal))"
+            self.fact(f"only_adds{k}", f"only_additions {at}", "true")
+            parts.append(f"additions {at}")
+        self.fact("adds_in_all", " + ".join(parts), total)
+        self.fact("is_the_sum", f"doubleword_of {self.state()} {process} {address}", total)
+
 
 def walked(name, title, guests, job_term, expected, trace=None, steps=400, words=None, chunk=None, chunks=1, sound=True):
     row = Row(title, guests, job_term)
@@ -74,6 +87,16 @@ def ended(name, title, guests, job_term, life, steps=400, words=None, chunk=None
     row.fact("ending_is", f"ending {row.state()}", "Done")
     row.sound(chunk, chunks)
     ROWS[name] = row
+
+
+def runs_to(name, guests, job_term, expected, trace=None):
+    """A row of which only facts are computed: its whole report, for the program."""
+    RUNS[name] = [g.words_and_data() for g in guests], job_term.plain, expected.plain, trace
+
+
+def runs_with(name, guests, job_term, lines):
+    """A row whose counts depend on the order: lines of its report, for the program."""
+    LINES[name] = [g.words_and_data() for g in guests], job_term.plain, lines
 
 
 def told(name, title, guests, job_term, journals, facts, states=()):
@@ -271,24 +294,41 @@ walked("Directories", "directories, unlinking, getdents64 and fstat", [g], job(1
 
 # ---- fork, wait and atomics
 
+FORK_TRACE = """mctrace 2
+run 0 1 64
+trap 1
+run 0 17 64
+run 0 1 64
+trap 17
+reap 17
+trap 1
+run 0 1 64
+trap 1
+reap 1"""
+
 g = Guest(); status = g.blob(bytes(8)); g.call(220, 17, 0, 0, 0, 0); g.branch("a0", "x0", "parent"); g.exit(5); g.label("parent"); g.expect(17)
 g.call(260, -1, status, 0, 0); g.expect(17); g.address("t2", status); g.load("a0", 0, "t2"); g.expect(1280); g.exit(); g.end()
 ended("ForkAndWait", "fork and wait", [g], job(36), "Ended (Exit 0)", chunk=20, chunks=2)
+# the parent leaves out the child's three instructions, and the child has the branch before them
+runs_to("ForkAndWait", [g], job(36), report("done", [(1, "exit 0"), (17, "exit 5")], [(1, b"")], instructions=g.straight + 1, free=36), trace=FORK_TRACE)
 ROWS["ForkAndWait"].fact("child_is", f"(process_of {ROWS['ForkAndWait'].state()}.node 17).life", "Ended (Exit 5)")
 ROWS["ForkAndWait"].fact("free_is", f"length {ROWS['ForkAndWait'].state()}.free", "36")
 
 g = Guest(); g.call(220, 17, 0, 0, 0, 0); g.branch("a0", "x0", "parent"); g.exit(5); g.label("parent"); g.expect(-12); g.exit(); g.end()
 ended("ForkWithoutFrames", "fork and wait, with too few frames", [g], job(35), "Ended (Exit 0)")
+runs_to("ForkWithoutFrames", [g], job(35), report("done", ENDED, [(1, b"")], instructions=g.straight - 3, free=35))
 
 g = Guest(); sums = g.blob(bytes(8)); mmap(g, 4096); g.call(220, 17, 0, 0, 0, 0); g.branch("a0", "x0", "parent"); g.addi("t1", "x0", 60); g.label("spin"); g.addi("t1", "t1", -1); g.branch("t1", "x0", "spin"); g.exit(5)
 g.label("parent"); g.call(220, CLONE, STACK, 0, 0, 0); g.call(260, -1, 0, 0, 0); g.address("t2", sums); g.emit("word", 0x00A3B52F)
 g.load("t1", 0, "t2"); g.set("t0", 17 - 10); g.branch("t1", "t0", "first"); g.exit(7); g.label("first"); g.call(93, 0); g.end()
 ended("TwoWaiters", "two waiters", [g], job(38, 2), "Ended (Exit 7)", chunk=15, chunks=3)
+runs_with("TwoWaiters", [g], job(38, 2), ["end done", "guest 1 exit 7", "guest 17 exit 5", "count requests 0", "count rounds 0", "count free 38"])
 
 g = Guest(); total = g.blob(bytes(8)); mmap(g, 4096); g.call(220, CLONE, STACK, 0, 0, 0); g.address("a1", total); g.set("a2", 1); g.set("t1", 5); g.label("loop")
 g.emit("word", 0x00C5A52F); g.addi("t1", "t1", -1); g.branch("t1", "x0", "loop"); g.set("t1", 60); g.label("spin"); g.addi("t1", "t1", -1); g.branch("t1", "x0", "spin")
 g.load("a0", 0, "a1"); g.expect(10); g.call(93, 0); g.end()
 ended("AtomicAdditions", "atomic additions, short", [g], job(19, 2), "Ended (Exit 0)", words="n * 5 + 1", chunk=20, chunks=2)
+ROWS["AtomicAdditions"].additions(1, total, 10, chunk=20, chunks=2)
 
 # ---- journals told event by event
 

@@ -1,11 +1,11 @@
 #!/usr/bin/env python3
-"""Runs the worked rows that are walks in order 0 by the built program, and compares whole reports and traces.
+"""Runs the worked rows that are walks in order 0 by the built program, and compares whole reports and traces, or lines of a report; then the rows of
+hostile guests, in order 0 and in orders 1 to 16.
 
     run.py            all of them
     run.py NAME..     these
 
-The program is crates/mcexec/out/mcexec, which `rt run` leaves in crates/mcexec. A row whose calls aren't built yet ends with status 13 and is
-counted apart.
+The program is crates/mcexec/out/mcexec, which `rt run` leaves in crates/mcexec.
 """
 
 import os
@@ -17,10 +17,10 @@ from pathlib import Path
 
 HERE = Path(__file__).resolve().parent
 sys.path.insert(0, str(HERE))
-from rows import RUNS  # noqa: E402
+import hostile  # noqa: E402
+from rows import LINES, RUNS  # noqa: E402
 
 PROGRAM = HERE.parent.parent / "crates" / "mcexec" / "out" / "mcexec"
-NOT_BUILT = 13
 STATUS = dict(done=0, stalled=1, limit=6)
 
 
@@ -68,14 +68,49 @@ def first_difference(got, wanted):
     return f"{len(got)} bytes in place of {len(wanted)}"
 
 
+def judged_lines(name):
+    images, job, lines = LINES[name]
+    with tempfile.TemporaryDirectory() as room:
+        folder = Path(room)
+        write_job(folder, images, job)
+        ran = walk(folder)
+    missing = [line for line in lines if line.encode() not in ran.stdout.split(b"\n")]
+    return f"no line {missing[0]!r} (status {ran.returncode})" if missing else ""
+
+
+def differs(report, wanted):
+    """What is wrong with a report of which these lines are known, and that its output is of whole pages."""
+    lines = report.split(b"\n")
+    for line in wanted:
+        if line not in lines:
+            return f"no line {line!r}"
+    output = next((int(line.split()[2]) for line in lines if line.startswith(b"output 1 ")), 1)
+    return f"an output of {output} bytes" if output % hostile.PAGE else ""
+
+
+def judged_in_orders(name):
+    guest, job, wanted = hostile.REPORTS.get(name) or hostile.LINES[name]
+    with tempfile.TemporaryDirectory() as room:
+        folder = Path(room)
+        write_job(folder, [guest.words_and_data()], job.plain)
+        for order in range(17):
+            ran = walk(folder, str(order))
+            wrong = differs(ran.stdout, wanted) if name in hostile.LINES else ran.stdout != wanted and first_difference(ran.stdout, wanted)
+            if wrong or ran.returncode != 0:
+                return f"order {order}: {wrong or ''} (status {ran.returncode})"
+    return ""
+
+
 def judged(name):
+    if name in LINES:
+        return judged_lines(name)
+    if name not in RUNS:
+        return judged_in_orders(name)
     images, job, report, trace = RUNS[name]
     with tempfile.TemporaryDirectory() as room:
         folder = Path(room)
         write_job(folder, images, job)
         ran = walk(folder)
-        if ran.returncode == NOT_BUILT:
-            return None
         wanted = STATUS[report.split(b"\n")[1].split()[1].decode()]
         if ran.stdout != report:
             return first_difference(ran.stdout, report) + f" (status {ran.returncode})"
@@ -92,13 +127,13 @@ def main(names):
     if not os.access(PROGRAM, os.X_OK):
         print("skipped: the program isn't built (rt run in crates/mcexec)")
         return 0
-    wrong = unbuilt = 0
-    for name in names or RUNS:
+    wrong = 0
+    names = names or [*RUNS, *LINES, *hostile.REPORTS, *hostile.LINES]
+    for name in names:
         said = judged(name)
-        unbuilt += said is None
         wrong += bool(said)
-        print(f"{name}: {'not built yet' if said is None else said or 'as it should be'}")
-    print(f"{len(names or RUNS)} rows, {wrong} wrong, {unbuilt} not built yet")
+        print(f"{name}: {said or 'as it should be'}")
+    print(f"{len(names)} rows, {wrong} wrong")
     return 1 if wrong else 0
 
 

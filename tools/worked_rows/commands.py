@@ -1,0 +1,90 @@
+#!/usr/bin/env python3
+"""Runs the commands of the built program that aren't walks: replays of a trace that is whole, changed or cut short, checks, growing jobs, and words that fit none.
+
+Expected are the texts and statuses of docs/FORMATS.md, over the rows `ExitCodeSeven` and `Hello` of rows.py.
+"""
+
+import os
+import subprocess
+import sys
+import tempfile
+from pathlib import Path
+
+HERE = Path(__file__).resolve().parent
+sys.path.insert(0, str(HERE))
+from rows import RUNS  # noqa: E402
+from run import PROGRAM, write_job  # noqa: E402
+
+GROWN = "end done\nguests {0}\ncount instructions {1}\ncount requests {2}\ncount faults {3}\ncount rounds {2}\ncount free {4}\n"
+CHECKED = "guest 1 entry 0000000000010078 pages 18\nsegment 0000000000010000 132 rwx\nframes 18 of 18\n"
+
+
+class Row:
+    """A row's job in a folder of its own."""
+
+    def __init__(self, name):
+        images, job, self.report, trace = RUNS[name]
+        self.room = tempfile.TemporaryDirectory()
+        self.folder = Path(self.room.name)
+        self.trace = trace.strip().split("\n") if trace else []
+        write_job(self.folder, images, job)
+
+    def run(self, *words):
+        return subprocess.run([PROGRAM, *words], cwd=self.folder, capture_output=True, timeout=100)
+
+    def replay(self, lines):
+        (self.folder / "trace").write_text("".join(line + "\n" for line in lines))
+        return self.run("replay", "job", "trace")
+
+
+def differs(ran, status, output, told=""):
+    if ran.returncode != status:
+        return f"status {ran.returncode} in place of {status}"
+    if output is not None and ran.stdout != output:
+        return f"{ran.stdout[:80]!r} in place of {output[:80]!r}"
+    return "" if ran.stderr.decode().strip() == told else f"{ran.stderr!r} in place of {told!r}"
+
+
+def exchanged(lines, one, other):
+    at = lines.index(one)
+    assert lines[at + 1] == other
+    return lines[:at] + [other, one] + lines[at + 2 :], at + 1
+
+
+def replays(row):
+    whole = row.trace
+    yield "replay of the whole trace", differs(row.replay(whole), 0, row.report)
+    lines, broken = exchanged(whole, "pin 1 0", "copy 1 0")
+    yield "replay of exchanged lines", differs(row.replay(lines), 10, b"", f"mcexec: trace line {broken}")
+    yield "replay without the last line", differs(row.replay(whole[:-1]), 11, row.report.replace(b"end done", b"end unfinished").replace(b"free 18", b"free 0"))
+    yield "replay of another version", differs(row.replay(["mctrace 9", *whole[1:]]), 10, b"", "mcexec: trace line 1")
+    yield "replay of the older version", differs(row.replay(["mctrace 1", *whole[1:]]), 0, row.report)
+    yield "replay of what is no entry", differs(row.replay([*whole[:3], "nothing", *whole[3:]]), 10, b"", "mcexec: trace line 4")
+    yield "replay of an absent trace", differs(row.run("replay", "job", "absent"), 7, b"", "mcexec: host fault")
+
+
+def others(row):
+    yield "check", differs(row.run("check", "job"), 0, CHECKED.encode())
+    yield "check of an absent job", differs(row.run("check", "absent"), 7, b"", "mcexec: host fault")
+    for n in (1, 2, 16):
+        yield f"grow {n}", differs(row.run("grow", str(n)), 0, GROWN.format(n, 1004 * n, 50 * n, 150 * n, 22 * n).encode())
+    yield "grow 3 in order 5", differs(row.run("grow", "3", "5"), 0, GROWN.format(3, 3012, 150, 450, 66).encode())
+    for words in ((), ("walk",), ("grow", "0"), ("grow", "17"), ("grow", "01"), ("replay", "job"), ("walk", "job", "x")):
+        yield f"words {' '.join(words)!r}", differs(row.run(*words), 2, b"", "mcexec: words")
+
+
+def main():
+    if not os.access(PROGRAM, os.X_OK):
+        print("skipped: the program isn't built (rt run in crates/mcexec)")
+        return 0
+    wrong = count = 0
+    for name, said in (*replays(Row("Hello")), *others(Row("ExitCodeSeven"))):
+        count += 1
+        wrong += bool(said)
+        print(f"{name}: {said or 'as it should be'}")
+    print(f"{count} commands, {wrong} wrong")
+    return 1 if wrong else 0
+
+
+if __name__ == "__main__":
+    sys.exit(main())
