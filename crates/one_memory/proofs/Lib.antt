@@ -1,5 +1,7 @@
+mod Below
 mod BytesRead
 mod BytesWritten
+mod Copied
 mod Counted
 mod GuestPages
 mod GuestStack

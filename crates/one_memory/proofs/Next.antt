@@ -24,22 +24,22 @@ rank l q = cond l Less (cond q Equal Greater)
 
 module _ {V : Type 0} where
   -- the keys rise from k on
-  find-below : (k j : ℕ) (es : List (ℕ × V)) → j ≤ k → T (below_all nat_cmp k es) → find nat_cmp j es ≡ None
+  pub find-below : (k j : ℕ) (es : List (ℕ × V)) → j ≤ k → T (below_all nat_cmp k es) → find nat_cmp j es ≡ None
   find-below k j [] l s = refl
   find-below k j (e ∷ es) l s =
       three k e.0 (λ a b. T (is_lt (rank a b) && below_all nat_cmp k es) → find nat_cmp j (e ∷ es) ≡ None)
       (λ m s. rw (lt-ltb j e.0 (omega arith)) (find-below k j es l s)) (λ q s. absurd s) (λ g s. absurd s) s
 
-  find-other : (j : ℕ) (e : ℕ × V) (es : List (ℕ × V)) → e.0 < j → find nat_cmp j (e ∷ es) ≡ find nat_cmp j es
+  pub find-other : (j : ℕ) (e : ℕ × V) (es : List (ℕ × V)) → e.0 < j → find nat_cmp j (e ∷ es) ≡ find nat_cmp j es
   find-other j e es l = rw (le-ltb j e.0 (omega arith), ne_eqb j e.0 (omega arith)) refl
 
-  find-here : (e : ℕ × V) (es : List (ℕ × V)) → find nat_cmp e.0 (e ∷ es) ≡ Some e.1
+  pub find-here : (e : ℕ × V) (es : List (ℕ × V)) → find nat_cmp e.0 (e ∷ es) ≡ Some e.1
   find-here e es = rw (le-ltb e.0 e.0 (omega arith), eq-eqb e.0 e.0 refl) refl
 
-  head-of : (e : ℕ × V) (es : List (ℕ × V)) → T (is_sorted nat_cmp (e ∷ es)) → T (below_all nat_cmp e.0 es)
+  pub head-of : (e : ℕ × V) (es : List (ℕ × V)) → T (is_sorted nat_cmp (e ∷ es)) → T (below_all nat_cmp e.0 es)
   head-of e es s = elim (below_all nat_cmp e.0 es) as (λ b. T (b && is_sorted nat_cmp es) → T b) [ true ↦ λ _. tt | false ↦ λ h. h ] s
 
-  tail-of : (e : ℕ × V) (es : List (ℕ × V)) → T (is_sorted nat_cmp (e ∷ es)) → T (is_sorted nat_cmp es)
+  pub tail-of : (e : ℕ × V) (es : List (ℕ × V)) → T (is_sorted nat_cmp (e ∷ es)) → T (is_sorted nat_cmp es)
   tail-of e es s = elim (below_all nat_cmp e.0 es) as (λ b. T (b && is_sorted nat_cmp es) → T (is_sorted nat_cmp es)) [ true ↦ λ h. h | false ↦ λ h. absurd h ] s
 
   none-in : (es : List (ℕ × V)) (from : ℕ) → first (λ k. leb from k) (map_list (λ e. e.0) es) ≡ None → (j : ℕ) → from ≤ j → find nat_cmp j es ≡ None

@@ -6,8 +6,10 @@
 
 mod bytes;
 mod changes;
+mod copies;
 mod guest;
 mod page_row;
+mod ranges;
 mod running;
 mod stack;
 
@@ -22,6 +24,7 @@ ghost use Rattle.std.specs.Borrow.{sem};
 ghost use Rattle.std.specs.Prelude.{◌≡◌, ◌<◌, ◌≤◌, ◌+◌, ◌^◌, IsSome, OnOk, Some, length};
 
 use changes::fill;
+use copies::copy_rows;
 pub use guest::{guest_memory, heap_base};
 use isa_model::allows;
 use key_rows::Rows;
@@ -129,6 +132,15 @@ impl PageRows {
         ensures len { length result.now ≡ 4096 }
     {
         self.rows.row_mut(page).bytes_mut()
+    }
+
+    /// Takes a copy of each page of another process, where there is none yet.
+    pub fn copy_from(&mut self, other: &PageRows)
+        requires empty { self.old.map ≡ no_rows }
+        requires room { count other.now.map ≤ self.old.spare }
+        ensures { self.new.map ≡ other.now.map }
+    {
+        copy_rows(&mut self.rows, &mut self.free, &other.rows);
     }
 
     /// Whether the process may read so many bytes from an address on.

@@ -95,6 +95,14 @@ impl PageRow {
         self.bytes.fill(0);
     }
 
+    /// Gives it the rights and the bytes of another one.
+    pub fn copy(&mut self, other: &PageRow)
+        ensures { self.new ≡ other.now }
+    {
+        self.rights = other.rights;
+        self.bytes.copy_from_slice(&other.bytes[..]);
+    }
+
     /// Copies from its bytes, from the offset on.
     pub fn copy_out(&self, off: usize, into: &mut [u8])
         requires { off + length into.old ≤ 4096 }
