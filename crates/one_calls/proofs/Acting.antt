@@ -1,12 +1,11 @@
 -- rt_sigaction and rt_sigprocmask, where they aren't refused: what they make of the node and of the memory.
 use Rattle.isa_model.specs.Memory.{Memory, read_bytes, write_bytes}
 use Rattle.kernel_model.specs.Nodes.{Node, Thread, action_of, answered, change_thread, process_of, thread_of}
-use Rattle.kernel_model.specs.SignalCalls.{action_bytes, action_in, is_signal, nat_of, new_mask, sets_action, sets_mask, sigaction}
+use Rattle.kernel_model.specs.SignalCalls.{action_bytes, action_in, nat_of, new_mask, sets_action, sets_mask, sigaction}
 use Rattle.kernel_model.specs.LocalCalls.{refuses}
 use Rattle.file_model.specs.Errno.{EFAULT, EINVAL}
 use Rattle.kernel_model.specs.Signals.{View, drop_ignored, on_node, store, stored_all, view, with_action}
 use Rattle.kernel_model.specs.declared.Action.{Action}
-use Rattle.mck_flags.specs.declared.signal_set.SigSet.{SigSet}
 use Rattle.mck_word.specs.Words.{little_endian, number_of}
 use Rattle.one_calls.specs.SignalWords.{asked_action, asked_set, given_action, given_mask, is_wrong_action, lacks_access}
 use Rattle.std.proofs.Common.{refl}

@@ -38,7 +38,7 @@ module _ (t : ℕ) where
   there-row None = refl
   there-row (Some x) = refl
 
-  process-kept : (k : KernelNode) → (thread_of (behind t k) t).process ≡ (thread_of k t).process
+  pub process-kept : (k : KernelNode) → (thread_of (behind t k) t).process ≡ (thread_of k t).process
   unfolding row
   process-kept k = ap (λ (o : Option Thread). (unwrap_or o no_thread).process) (at-changed k.threads t (λ (x : Thread). record x { regs = set_pc (x.regs.pc + 4) x.regs })) ∙ process-row (at k.threads t)
 

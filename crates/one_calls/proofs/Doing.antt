@@ -2,7 +2,6 @@
 use Rattle.file_model.specs.Files.{Files}
 use Rattle.isa_model.specs.Memory.{Memory}
 use Rattle.kernel_model.specs.Nodes.{Node as KernelNode}
-use Rattle.kernel_model.specs.OneKernel.{Call, OneHere}
 use Rattle.kernel_model.specs.Signals.{View, on_node, stored_all, view}
 use Rattle.lwk_node.specs.declared.tables.Node.{Node}
 use Rattle.one_calls.specs.Views.{Did, DidAlone, Stepped, seen}

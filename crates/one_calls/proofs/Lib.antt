@@ -7,3 +7,4 @@ pub mod Acting
 pub mod Dispatched
 pub mod Behind
 pub mod Trapping
+pub mod ForkTraps

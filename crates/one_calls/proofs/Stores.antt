@@ -2,11 +2,10 @@
 use Rattle.isa_model.specs.Memory.{Memory, Page, lacks_in, may_access, page_with, put_byte, write_bytes}
 use Rattle.kernel_model.specs.Signals.{Store, View, store, stored_all, try_store}
 use Rattle.mck_word.specs.MapLaws.{at-put}
-use Rattle.mck_word.specs.Maps.{Map, at, change, change_row}
+use Rattle.mck_word.specs.Maps.{at, change, change_row}
 use Rattle.mck_word.specs.Words.{little_endian}
 use Rattle.mck_word.specs.declared.Access.TheVariants.{Write}
 use Rattle.mck_word.specs.declared.Access.{Access}
-use Rattle.one_memory.specs.Views.{tried}
 use Rattle.one_calls.specs.Words.{told}
 use Rattle.std.proofs.Common.{ap, inl, inr, refl, sym, ◌∙◌}
 use Rattle.std.proofs.lemmas.Bool.{cases_eq, eq-eqb, ne_eqb}

@@ -6,17 +6,16 @@ use Rattle.kernel_model.specs.Calls.{local_call, one_of_calls}
 use Rattle.kernel_model.specs.CloneCalls.{CallDone, are_fork_flags, clone, fork}
 use Rattle.kernel_model.specs.Nodes.{stop_in, thread_of}
 use Rattle.kernel_model.specs.OneKernel.{OneHere}
-use Rattle.kernel_model.specs.Signals.{View, on_node, raised, signal_of_stop, stored_all}
+use Rattle.kernel_model.specs.Signals.{View, on_node, raised, signal_of_stop}
 use Rattle.kernel_model.specs.Steps.{one_trap, one_trapped, one_view, with_view}
 use Rattle.kernel_model.specs.Traps.{Done, cloned, trap, trap_of_stop}
 use Rattle.lwk_node.specs.declared.tables.Node.{Node}
-use Rattle.mck_word.specs.declared.Regs.{Regs}
 use Rattle.one_calls.specs.Calls.{one_call}
 use Rattle.one_calls.specs.Here.{Rest, here}
-use Rattle.one_calls.specs.LocalTraps.{is_fork, stops_locally}
+use Rattle.one_calls.specs.LocalTraps.{is_fork}
 use Rattle.one_calls.specs.Views.{Did, DidAlone}
-use Rattle.std.proofs.Common.{ap, arith, refl, sym, ◌∙◌}
-use Rattle.std.specs.Prelude.{Bool, List, None, Option, Some, cond, false, get_or, true, ℕ, ◌&&◌, ◌==◌, ◌≡◌, ◌≢◌, ◌≤◌}
+use Rattle.std.proofs.Common.{ap, arith, refl, sym}
+use Rattle.std.specs.Prelude.{Bool, List, None, Option, Some, cond, false, get_or, true, ℕ, ◌&&◌, ◌==◌, ◌≡◌, ◌≢◌}
 
 -- a step on a view is the step of the process
 pub did-here : (before : Node) (m : Memory) (after : Node) (left : Memory) (word : View → View) → Did before m after left word
@@ -52,14 +51,6 @@ local-done t free number args v other = go (number == 220) (are_fork_flags (get_
     go false f e = refl
 
 -- ---- stops
-
-pub signal-there : (r : Regs) (s : Stop) → stops_locally r (Some s) ≡ true → s ≢ Ecall → 1 ≤ signal_of_stop s
-signal-there r On e d = absurd (grind (arith, e))
-signal-there r Ecall e d = absurd (d refl)
-signal-there r Break e d = omega arith
-signal-there r Illegal e d = omega arith
-signal-there r Misaligned e d = omega arith
-signal-there r (Fault lack) e d = omega arith
 
 pub raises-signal : (t free : ℕ) (v : View) (s : Stop) → s ≢ Ecall → trap_of_stop t free v (Some s) ≡ Done (on_node (raised t (signal_of_stop s)) v)
 raises-signal t free v On d = refl

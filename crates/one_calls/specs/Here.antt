@@ -4,7 +4,7 @@ use Rattle.isa_model.specs.Memory.{Memory}
 use Rattle.kernel_model.specs.OneKernel.{Call, OneHere}
 use Rattle.lwk_node.specs.Shown.{node_of}
 use Rattle.lwk_node.specs.declared.tables.Node.{Node}
-use Rattle.mck_word.specs.Maps.{Map, count, no_rows}
+use Rattle.mck_word.specs.Maps.{Map, no_rows}
 use Rattle.mck_word.specs.declared.Pid.{Pid}
 use Rattle.std.specs.Prelude.{None, Option, Some, ℕ, ◌-◌}
 
@@ -17,7 +17,7 @@ pub record Rest : Type 0 where
 abbrev pub here : Node → Memory → Rest → OneHere
 here node m r = record { own = record { memory = m; calls = r.calls }; node = node_of node r.files; free = r.free; born = None }
 
--- beside it the process that a fork makes, if it does, which has its parent's descriptors; its memory takes as many frames as its parent's
-abbrev pub here_with : Node → Memory → Memory → ℕ → Option Pid → Rest → OneHere
-here_with node m child p None r = here node m r
-here_with node m child p (Some q) r = record (here node m (record r { files = share p q.0 r.files; free = r.free - count m })) { born = Some (q.0, record { memory = child; calls = no_rows }) }
+-- beside it the process that a fork makes, if it does, which has its parent's descriptors, and takes as many frames as its parent had pages
+abbrev pub here_with : Node → Memory → Memory → ℕ → ℕ → Option Pid → Rest → OneHere
+here_with node m child pages p None r = here node m r
+here_with node m child pages p (Some q) r = record (here node m (record r { files = share p q.0 r.files; free = r.free - pages })) { born = Some (q.0, record { memory = child; calls = no_rows }) }

@@ -1,8 +1,8 @@
--- The traps that are local: stops that raise a signal, calls that aren't known, and local calls; of these forks stand apart.
+-- The traps that are local: stops that are no calls, calls that aren't known, and local calls; of these forks stand apart.
 use Rattle.file_model.specs.Errno.{ENOSYS}
 use Rattle.isa_model.specs.Registers.{reg}
 use Rattle.isa_model.specs.declared.stops.Stop.{Stop}
-use Rattle.isa_model.specs.declared.stops.Stop.TheVariants.{Ecall, On}
+use Rattle.isa_model.specs.declared.stops.Stop.TheVariants.{Ecall}
 use Rattle.kernel_model.specs.CloneCalls.{are_fork_flags}
 use Rattle.kernel_model.specs.LocalCalls.{answers}
 use Rattle.kernel_model.specs.Nodes.{Node, stop_in, thread_of}
@@ -32,7 +32,6 @@ names_local r = is_local r (plan (reg r 17) (arguments_of r))
 
 abbrev pub stops_locally : Regs → Option Stop → Bool
 stops_locally r None = false
-stops_locally r (Some On) = false
 stops_locally r (Some Ecall) = names_local r
 stops_locally r (Some stop) = true
 

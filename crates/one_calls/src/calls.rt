@@ -1,15 +1,14 @@
-// The local calls by their numbers, and what a trap makes beside them.
+// The local calls by their numbers.
 ghost use Rattle.file_model.specs.Errno.{ENOSYS};
 ghost use Rattle.isa_model.specs.Registers.{reg};
 ghost use Rattle.kernel_model.specs.Calls.{one_of_calls as any_of_calls};
 ghost use Rattle.kernel_model.specs.LocalCalls.{answers};
-ghost use Rattle.kernel_model.specs.Signals.{on_node, raised, signal_of_stop};
 ghost use Rattle.kernel_model.specs.Traps.{arguments_of as arguments_in, past_ecall};
 ghost use Rattle.mck_word.specs.Words.{refused};
 ghost use Rattle.one_calls.specs.Calls.{one_call};
 ghost use Rattle.one_calls.specs.Resting.{MayClone, MayRest};
 ghost use Rattle.one_calls.specs.Views.{Did, DidAlone};
-ghost use Rattle.std.specs.Prelude.{◌≡◌, ◌≤◌, get_or};
+ghost use Rattle.std.specs.Prelude.{◌≡◌, get_or};
 
 use crate::{
     answers_zero, clone, exits, exits_group, futex, getpid, getppid, gettid, kill,
@@ -17,7 +16,6 @@ use crate::{
     tgkill, wait4,
 };
 use call_plan::arguments::int;
-use isa_model::Stop;
 use lwk_node::Node;
 use mck_word::{Regs, Tid};
 use one_memory::PageRows;
@@ -42,28 +40,6 @@ pub fn arguments_of(regs: &Regs) -> [u64; 6]
     [
         regs.x[10], regs.x[11], regs.x[12], regs.x[13], regs.x[14], regs.x[15],
     ]
-}
-
-/// The signal of a stop that is no call, or 0.
-fn signal_of(stop: Stop) -> u32
-    ensures is { result ≡ signal_of_stop stop }
-    ensures most { result ≤ 64 }
-{
-    match stop {
-        Stop::On | Stop::Ecall => 0,
-        Stop::Break => 5,
-        Stop::Illegal => 4,
-        Stop::Misaligned => 7,
-        Stop::Fault(_) => 11,
-    }
-}
-
-/// The stop of the thread raises its signal.
-pub fn raises(node: &mut Node, t: Tid, stop: Stop)
-    requires { 1 ≤ signal_of_stop stop }
-    ensures { DidAlone node.old node.new (on_node (raised t.0 (signal_of_stop stop))) }
-{
-    node.raised(t, signal_of(stop));
 }
 
 /// A local call of the thread that is no clone.

@@ -12,8 +12,9 @@ ghost use Rattle.one_calls.specs.LocalTraps.{calls_fork, names_fork, names_local
 ghost use Rattle.one_calls.specs.Resting.{MayClone, MayRest};
 ghost use Rattle.std.specs.Prelude.{◌≡◌, Some, true, ℕ};
 
-use crate::calls::{CLONE, arguments_of, call_number, calls_locally, raises, refuses_call};
+use crate::calls::{CLONE, arguments_of, call_number, calls_locally, refuses_call};
 use crate::forking::are_fork_flags;
+use crate::raising::raises;
 use call_plan::{Plan, plan};
 use isa_model::Stop;
 use kernel_model::Does;
@@ -54,7 +55,6 @@ pub fn traps_locally(node: &Node, t: Tid) -> bool
     ensures { (files : Files) → result ≡ traps_locally (node_of node.now files) t.0 }
 {
     match node.does(t) {
-        Does::Stopped(Stop::On) => false,
         Does::Stopped(Stop::Ecall) => names_local(&node.regs(t)),
         Does::Stopped(_) => true,
         _ => false,

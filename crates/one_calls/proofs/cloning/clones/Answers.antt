@@ -1,5 +1,4 @@
-use Rattle.kernel_model.specs.CloneCalls.{cloned_thread, with_thread}
-use Rattle.kernel_model.specs.Nodes.{Node as KernelNode, answered, thread_of}
+use Rattle.kernel_model.specs.Nodes.{answered}
 use Rattle.lwk_node.specs.Shown.{node_of}
 use Rattle.one_calls.proofs.Begun.{clones-node, clones-stored}
 use Rattle.one_calls.specs.Words.{told}

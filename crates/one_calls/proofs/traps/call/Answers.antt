@@ -2,10 +2,9 @@ use Rattle.kernel_model.specs.LocalCalls.{answers}
 use Rattle.kernel_model.specs.Plans as plans
 use Rattle.kernel_model.specs.Signals.{View}
 use Rattle.kernel_model.specs.Steps.{one_trapped, one_view}
-use Rattle.kernel_model.specs.Traps.{Trapped, arguments_of, cloned, past_ecall, planned}
+use Rattle.kernel_model.specs.Traps.{Trapped, arguments_of, past_ecall, planned}
 use Rattle.file_model.specs.Errno.{ENOSYS}
 use Rattle.isa_model.specs.Registers.{reg}
-use Rattle.kernel_model.specs.Calls.{local_call}
 use Rattle.mck_word.specs.Words.{refused}
 use Rattle.one_calls.proofs.Trapping.{alone-here, did-here, local-done}
 use Rattle.one_calls.proofs.traps.call.Goals as goal

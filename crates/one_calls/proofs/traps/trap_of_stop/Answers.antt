@@ -8,7 +8,7 @@ use Rattle.kernel_model.specs.Steps.{one_trapped, one_view}
 use Rattle.kernel_model.specs.Traps.{Trapped, arguments_of, past_ecall, planned, trap_of_stop}
 use Rattle.lwk_node.specs.Shown.{node_of}
 use Rattle.mck_word.specs.declared.Regs.{Regs}
-use Rattle.one_calls.proofs.Trapping.{alone-here, raises-signal, signal-there}
+use Rattle.one_calls.proofs.Trapping.{alone-here, raises-signal}
 use Rattle.one_calls.proofs.traps.trap_of_stop.Goals as goal
 use Rattle.one_calls.specs.Here.{here}
 use Rattle.one_calls.specs.LocalTraps.{names_local, stops_locally}
@@ -25,9 +25,6 @@ call-requires-clause-rest c = λ e. c.requires.rest root_only (ap (λ (x : Regs)
 
 pub call-requires-clause-clone : goal.call-requires-clause-clone
 call-requires-clause-clone c = λ e. c.requires.clone root_only (ap (λ (x : Regs). reg x 17) (sym (c.regs-regs.ensures root_only)) ∙ e)
-
-pub raises-requires : goal.raises-requires
-raises-requires c = signal-there (thread_of (node_of c.args.node.now root_only) c.args.t.0).regs c.args.stop (c.requires.local root_only) (λ e. absurd (c.in_default.not-Ecall e))
 
 pub returns-in-Ecall : goal.returns-in-Ecall
 returns-in-Ecall c = λ p r.
