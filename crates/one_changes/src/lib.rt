@@ -1,0 +1,119 @@
+//! The memory calls of a process over its plain pages: what one decides, what is decided again at its end, and its change.
+//!
+//! Promises: `decide` is `decide` of the definitions and `finish` is `refusal_at_end` (kernel_model's specs/MemoryCalls), for each process
+//! with the given break and heap's base, and the memory that the pages show; `make` leaves the pages and the number of free frames as
+//! `after_effect` of kernel_model's specs/Spaces does. Pages are counted and compared in one walk over those that are present, and a gap
+//! is looked for from the top, from one present page down to the next. No call but `make_room_for` takes memory or fails.
+#![tactic(auto)]
+
+mod changes;
+mod counts;
+mod gaps;
+
+ghost use Rattle.job_model.specs.Images.{highest};
+ghost use Rattle.kernel_model.specs.MemoryCalls.{decide, refusal_at_end};
+ghost use Rattle.kernel_model.specs.Nodes.{Process};
+ghost use Rattle.offer_laws.specs.ChangeFits.{DecisionFits};
+ghost use Rattle.std.specs.Option.{ForSome};
+ghost use Rattle.std.specs.Prelude.{◌≡◌, ◌<◌, ◌≤◌, ◌^◌};
+ghost use Rattle.vm_calls.specs.Facts.{Describes, DescribesAtEnd, decision, refusal};
+
+pub use changes::{make, make_room_for};
+use counts::{count_present, lessens_any, rights_of};
+use gaps::gap_for;
+use ikc_ring::Call;
+use kernel_model::Change;
+use one_memory::PageRows;
+use vm_calls::{AtEnd, Facts, VmPlan, call_range, change_range};
+
+/// What the call has to know of the process's memory.
+fn facts_for_call(memory: &PageRows, brk: u64, base: u64, free: u64, call: &Call) -> Facts
+    ensures brk { result.brk ≡ brk }
+    ensures base { result.base ≡ base }
+    ensures free { result.free ≡ free }
+    ensures gap { ForSome result.gap (λ low. low < 2 ^ 52) }
+    ensures describes { (p : Process) → brk ≡ p.program_break → base ≡ p.heap_base → Describes result call.now.number call.now.args p memory.now.map }
+{
+    let range = call_range(brk, call);
+    let rights = rights_of(call.args[2] % (1 << 32));
+    Facts {
+        brk,
+        base,
+        free,
+        gap: gap_for(memory, free, call),
+        present: count_present(memory, &range),
+        lessens: call.number == 226 && lessens_any(memory, &range, rights),
+    }
+}
+
+/// What the end of a change has to know of the process's memory.
+fn facts_at_end(memory: &PageRows, brk: u64, free: u64, change: &Change) -> Facts
+    ensures brk { result.brk ≡ brk }
+    ensures free { result.free ≡ free }
+    ensures describes { (p : Process) → brk ≡ p.program_break → DescribesAtEnd result change.now p memory.now.map }
+{
+    Facts {
+        brk,
+        base: 0,
+        free,
+        gap: None,
+        present: count_present(memory, &change_range(brk, change)),
+        lessens: false,
+    }
+}
+
+/// What a call decides, and that its change fits. A call of another number than 215, 222 and 226 is a brk.
+pub fn decide(memory: &PageRows, brk: u64, base: u64, free: u64, call: &Call) -> VmPlan
+    requires small { brk < 2 ^ 63 }
+    requires heap { base ≤ highest }
+    ensures fits { DecisionFits (decision result) }
+    ensures decides { (p : Process) → brk ≡ p.program_break → base ≡ p.heap_base → decision result ≡ decide p memory.now.map free call.now.number call.now.args }
+{
+    vm_calls::decide(&facts_for_call(memory, brk, base, free, call), call)
+}
+
+/// What is decided at the end of a change that had to wait.
+pub fn finish(memory: &PageRows, brk: u64, free: u64, change: &Change) -> AtEnd
+    requires { brk < 2 ^ 63 }
+    ensures { (p : Process) → brk ≡ p.program_break → refusal result ≡ refusal_at_end p memory.now.map free change.now }
+{
+    vm_calls::finish(&facts_at_end(memory, brk, free, change), change)
+}
+
+#[cfg(test)]
+mod tests {
+    use super::*;
+    use mck_flags::Rights;
+    use mck_word::{PageRange, Req, Tid};
+
+    #[test]
+    fn pages_come_and_go(rt: HostRuntime) {
+        let mut memory = PageRows::new(rt.alloc());
+        let mut free = 4;
+        let range = PageRange { lo: 0x20, hi: 0x22 };
+        let rights = Rights(3);
+        let unmap = Call {
+            q: Req(1),
+            tid: Tid(1),
+            number: 215,
+            args: [0x2_0000, 0x2000, 0, 0, 0, 0],
+        };
+        assert_eq!(rt;
+            decide(&memory, 0x1_2345, 0x1_2000, 4, &unmap),
+            VmPlan::Reply(0)
+        );
+        // two pages want two frames
+        let map = Change::Map { range, rights };
+        assert_eq!(rt; finish(&memory, 0x1_2345, 2, &map), AtEnd::Make);
+        assert_eq!(rt; finish(&memory, 0x1_2345, 1, &map), AtEnd::Reply(-12));
+        make_room_for(&mut memory, rt.alloc(), 0x1_2345, &map).expect(&rt, "memory");
+        if memory.count() < 9 {
+            make(&mut memory, &mut free, 0x1_2345, &map);
+        }
+        assert_eq!(rt; (memory.count(), free), (2, 2));
+        assert_eq!(rt; finish(&memory, 0x1_2345, 0, &map), AtEnd::Make);
+        let change = Change::Unmap(range);
+        make(&mut memory, &mut free, 0x1_2345, &change);
+        assert_eq!(rt; (memory.count(), free), (0, 4));
+    }
+}
