@@ -1,0 +1,4 @@
+mod Descriptors
+pub mod Lists
+pub mod Nodes
+pub mod Rows
