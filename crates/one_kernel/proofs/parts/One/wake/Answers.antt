@@ -1,0 +1,35 @@
+use Rattle.kernel_model.specs.declared.steps.Step.TheVariants.{Wake}
+use Rattle.one_kernel.proofs.After.{after-is, may-here, may-in, process-is}
+use Rattle.one_kernel.proofs.Calling.{blocked-is, both, own-called, row-called}
+use Rattle.one_kernel.proofs.Stepping.{own-with, wakes}
+use Rattle.one_kernel.proofs.parts.One.wake.Goals as goal
+use Rattle.one_kernel.specs.Parts.{here_in}
+use Rattle.std.proofs.Common.{refl, ◌∙◌}
+use Rattle.one_kernel.specs.declared.calls.Standing.TheVariants.{Active}
+
+pub row_mut-own-requires : goal.row_mut-own-requires
+row_mut-own-requires c =
+    let x = c.args.self.now in
+    let p = c.process_of_thread-p.result.0 in
+    own-called x p c.args.t.0 ((both _ _ (may-here x p (Wake c.args.t) (process-is x c.args.t.0 p c.process_of_thread-p.ensures) c.requires)).0)
+
+pub row_mut-call-requires : goal.row_mut-call-requires
+row_mut-call-requires c =
+    let x = c.args.self.now in
+    let p = c.process_of_thread-p.result.0 in
+    let w = c.row_mut-own.result.now in
+    row-called x w c.args.t.0 ((both _ _ (may-in x p w (Wake c.args.t) c.row_mut-own.ensures.value (process-is x c.args.t.0 p c.process_of_thread-p.ensures) c.requires)).0)
+
+pub returns : goal.returns
+returns c =
+    let x = c.args.self.now in
+    let p = c.process_of_thread-p.result.0 in
+    let w = c.row_mut-own.result.now in
+    let process = process-is x c.args.t.0 p c.process_of_thread-p.ensures in
+    let there = c.row_mut-own.ensures.value in
+    let may = may-in x p w (Wake c.args.t) there process c.requires in
+    let call = c.row_mut-call.result.now in
+    let called = c.row_mut-call.ensures.value in
+    let blocked = blocked-is x w c.args.t.0 call called _ (both _ _ may).1 in
+    after-is x _ p w _ (Wake c.args.t) there refl process
+    ((λ i. record (here_in x w) { own = own-with w c.args.t.0 (record call { standing = Active }) i }) ∙ wakes x p w c.args.t call called blocked.0)

@@ -1,0 +1,10 @@
+pub mod Booting
+pub mod Due
+pub mod Parts
+pub mod Ready
+pub mod Rooms
+pub mod Shown
+pub mod Standings
+pub mod StepRooms
+pub mod Summed
+pub mod Trapping

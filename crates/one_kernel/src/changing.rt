@@ -1,0 +1,254 @@
+// Changes of a process's memory: what a memory call comes to, what the end of a change comes to, and the change made.
+ghost use Rattle.file_model.specs.Files.{Files};
+ghost use Rattle.isa_model.specs.declared.stops.Stop.TheVariants.{Ecall};
+ghost use Rattle.kernel_model.specs.MemoryCalls.{answer_of_change, decide, effect_of, refusal_at_end};
+ghost use Rattle.kernel_model.specs.Nodes.{Process, process_of, thread_of};
+ghost use Rattle.kernel_model.specs.Plans.{Vm};
+ghost use Rattle.kernel_model.specs.Steps.{one_changed, one_effect, one_trapped, one_view};
+ghost use Rattle.kernel_model.specs.Traps.{decided, past_ecall, planned};
+ghost use Rattle.kernel_model.specs.declared.Does.TheVariants.{Stopped};
+ghost use Rattle.lwk_node.specs.Shown.{node_of};
+ghost use Rattle.mck_word.specs.Maps.{count};
+ghost use Rattle.offer_laws.specs.ChangeFits.{ChangeFits, DecisionFits};
+ghost use Rattle.one_calls.specs.Here.{Rest, here};
+ghost use Rattle.one_kernel.specs.Due.{HasRoomFor, HeapFits, at_once, due, due_by, unless_refused};
+ghost use Rattle.std.specs.Prelude.{◌≡◌, ◌<◌, ◌+◌, ◌^◌, Some};
+ghost use Rattle.vm_calls.specs.Facts.{decision, refusal};
+
+use ikc_ring::Call;
+use isa_model::Stop;
+use kernel_model::{Change, Does};
+use lwk_node::Node;
+use mck_word::{Pid, Regs, Req, Tid};
+use one_calls::{arguments_of, call_number};
+use one_changes::{decide, finish, make};
+use one_memory::PageRows;
+use vm_calls::{AtEnd, VmPlan};
+
+/// What the call answers once its change is made.
+fn answer_of(change: &Change) -> i64
+    requires { ChangeFits change.now }
+    ensures { result ≡ answer_of_change change.now }
+{
+    match *change {
+        Change::Map { range, .. } => (range.lo * 4096) as i64,
+        Change::Brk(a) => a as i64,
+        Change::Unmap(_) | Change::Protect { .. } => 0,
+    }
+}
+
+/// The break once the change is made, where it is `brk` before.
+fn break_after(brk: u64, change: &Change) -> u64
+    ensures { (p : Process) → brk ≡ p.program_break → result ≡ (effect_of p change.now).program_break }
+{
+    match *change {
+        Change::Brk(a) => a,
+        Change::Map { .. } | Change::Unmap(_) | Change::Protect { .. } => brk,
+    }
+}
+
+/// A change of the process is made: its pages go and come, the break is set, and the thread has its answer.
+fn make_change(
+    node: &mut Node,
+    memory: &mut PageRows,
+    free: &mut u64,
+    p: Pid,
+    t: Tid,
+    change: &Change,
+)
+    requires fits { ChangeFits change.now }
+    requires small { free.old + count memory.old.map < 2 ^ 64 }
+    requires room { (files : Files) → HasRoomFor memory.old.spare (process_of (node_of node.old files) p.0).program_break (Some change.now) }
+    ensures { (r : Rest) → here node.new memory.new.map (record r { free = free.new })
+        ≡ (let h = here node.old memory.old.map (record r { free = free.old }) in
+        one_effect p.0 t.0 (answer_of_change change.now) (effect_of (process_of h.node p.0) change.now) h) }
+{
+    let brk = node.program_break(p);
+    make(memory, free, brk, change);
+    node.set_break(p, break_after(brk, change));
+    node.finishes(t, answer_of(change));
+}
+
+/// What a memory call of the process decides. No request belongs to it.
+fn plan_call(
+    node: &Node,
+    memory: &PageRows,
+    free: u64,
+    p: Pid,
+    t: Tid,
+    number: u64,
+    args: &[u64; 6],
+) -> VmPlan
+    requires { (files : Files) → HeapFits (process_of (node_of node.now files) p.0) }
+    ensures fits { DecisionFits (decision result) }
+    ensures is { (files : Files) → decision result ≡ decide (process_of (node_of node.now files) p.0) memory.now.map free number args.now }
+{
+    let call = Call {
+        q: Req(0),
+        tid: t,
+        number,
+        args: *args,
+    };
+    decide(
+        memory,
+        node.program_break(p),
+        node.heap_base(p),
+        free,
+        &call,
+    )
+}
+
+/// The thread has its answer, its change is made, or it waits until its change may be made.
+fn does_as_planned(
+    node: &mut Node,
+    memory: &mut PageRows,
+    free: &mut u64,
+    p: Pid,
+    t: Tid,
+    plan: &VmPlan,
+)
+    requires fits { DecisionFits (decision plan.now) }
+    requires small { free.old + count memory.old.map < 2 ^ 64 }
+    requires room { (files : Files) → HasRoomFor memory.old.spare (process_of (node_of node.old files) p.0).program_break (at_once (decision plan.now)) }
+    ensures { (r : Rest) → here node.new memory.new.map (record r { free = free.new })
+        ≡ (let h = here node.old memory.old.map (record r { free = free.old }) in
+        one_trapped p.0 t.0 (decided t.0 (one_view h) (decision plan.now)) h) }
+{
+    match *plan {
+        VmPlan::Reply(answer) => node.answered(t, answer),
+        VmPlan::Now(change) => make_change(node, memory, free, p, t, &change),
+        VmPlan::Round(_, change) => node.set_does(t, Does::InVm(change)),
+    }
+}
+
+/// The memory call that the registers of the thread name is made, behind its ecall.
+fn calls_for_memory(
+    node: &mut Node,
+    memory: &mut PageRows,
+    free: &mut u64,
+    p: Pid,
+    t: Tid,
+    regs: &Regs,
+)
+    requires own { (files : Files) → (thread_of (node_of node.old files) t.0).process ≡ p.0 }
+    requires heap { (files : Files) → HeapFits (process_of (node_of node.old files) p.0) }
+    requires small { free.old + count memory.old.map < 2 ^ 64 }
+    requires room { (files : Files) → HasRoomFor memory.old.spare (process_of (node_of node.old files) p.0).program_break (due_by (Stopped Ecall) regs.now (process_of (node_of node.old files) p.0) memory.old.map free.old) }
+    ensures { (r : Rest) → here node.new memory.new.map (record r { free = free.new })
+        ≡ (let h = here node.old memory.old.map (record r { free = free.old }) in
+        one_trapped p.0 t.0 (planned t.0 free.old regs.now (past_ecall t.0 (one_view h)) Vm) h) }
+{
+    node.past_ecall(t);
+    let plan = plan_call(
+        node,
+        memory,
+        *free,
+        p,
+        t,
+        call_number(regs),
+        &arguments_of(regs),
+    );
+    does_as_planned(node, memory, free, p, t, &plan);
+}
+
+/// The trap of the thread, which stopped at a memory call.
+pub fn trap_memory(node: &mut Node, memory: &mut PageRows, free: &mut u64, p: Pid, t: Tid)
+    requires own { (files : Files) → (thread_of (node_of node.old files) t.0).process ≡ p.0 }
+    requires stopped { (files : Files) → (thread_of (node_of node.old files) t.0).does ≡ Stopped Ecall }
+    requires heap { (files : Files) → HeapFits (process_of (node_of node.old files) p.0) }
+    requires small { free.old + count memory.old.map < 2 ^ 64 }
+    requires room { (files : Files) → HasRoomFor memory.old.spare (process_of (node_of node.old files) p.0).program_break (due (node_of node.old files) t.0 memory.old.map free.old) }
+    ensures { (r : Rest) → here node.new memory.new.map (record r { free = free.new })
+        ≡ (let h = here node.old memory.old.map (record r { free = free.old }) in
+        one_trapped p.0 t.0 (planned t.0 free.old (thread_of h.node t.0).regs (past_ecall t.0 (one_view h)) Vm) h) }
+{
+    let regs = node.regs(t);
+    calls_for_memory(node, memory, free, p, t, &regs);
+}
+
+/// What is decided at the end of the change, for which the thread has waited.
+fn plan_end(node: &Node, memory: &PageRows, free: u64, p: Pid, change: &Change) -> AtEnd
+    requires { (files : Files) → HeapFits (process_of (node_of node.now files) p.0) }
+    ensures { (files : Files) → refusal result ≡ refusal_at_end (process_of (node_of node.now files) p.0) memory.now.map free change.now }
+{
+    finish(memory, node.program_break(p), free, change)
+}
+
+/// The change of the thread is refused or made.
+pub fn finish_change(
+    node: &mut Node,
+    memory: &mut PageRows,
+    free: &mut u64,
+    p: Pid,
+    t: Tid,
+    change: &Change,
+)
+    requires heap { (files : Files) → HeapFits (process_of (node_of node.old files) p.0) }
+    requires fits { ChangeFits change.now }
+    requires small { free.old + count memory.old.map < 2 ^ 64 }
+    requires room { (files : Files) → HasRoomFor memory.old.spare (process_of (node_of node.old files) p.0).program_break (unless_refused change.now (refusal_at_end (process_of (node_of node.old files) p.0) memory.old.map free.old change.now)) }
+    ensures { (r : Rest) → here node.new memory.new.map (record r { free = free.new })
+        ≡ (let h = here node.old memory.old.map (record r { free = free.old }) in
+        one_changed p.0 t.0 change.now (refusal_at_end (process_of h.node p.0) h.own.memory h.free change.now) h) }
+{
+    match plan_end(node, memory, *free, p, change) {
+        AtEnd::Reply(answer) => node.finishes(t, answer),
+        AtEnd::Make => make_change(node, memory, free, p, t, change),
+    }
+}
+
+/// The change that the memory call of the registers makes at once.
+fn change_at_once(
+    node: &Node,
+    memory: &PageRows,
+    free: u64,
+    p: Pid,
+    t: Tid,
+    regs: &Regs,
+) -> Option<Change>
+    requires { (files : Files) → HeapFits (process_of (node_of node.now files) p.0) }
+    ensures { (files : Files) → result ≡ due_by (Stopped Ecall) regs.now (process_of (node_of node.now files) p.0) memory.now.map free }
+{
+    match plan_call(
+        node,
+        memory,
+        free,
+        p,
+        t,
+        call_number(regs),
+        &arguments_of(regs),
+    ) {
+        VmPlan::Now(change) => Some(change),
+        VmPlan::Reply(_) | VmPlan::Round(..) => None,
+    }
+}
+
+/// The change, where its end doesn't refuse it.
+fn change_at_end(
+    node: &Node,
+    memory: &PageRows,
+    free: u64,
+    p: Pid,
+    change: &Change,
+) -> Option<Change>
+    requires { (files : Files) → HeapFits (process_of (node_of node.now files) p.0) }
+    ensures { (files : Files) → result ≡ unless_refused change.now (refusal_at_end (process_of (node_of node.now files) p.0) memory.now.map free change.now) }
+{
+    match plan_end(node, memory, free, p, change) {
+        AtEnd::Make => Some(*change),
+        AtEnd::Reply(_) => None,
+    }
+}
+
+/// The change that the thread makes next, at a memory call or at the end of its wait.
+pub fn due(node: &Node, memory: &PageRows, free: u64, p: Pid, t: Tid) -> Option<Change>
+    requires own { (files : Files) → (thread_of (node_of node.now files) t.0).process ≡ p.0 }
+    requires heap { (files : Files) → HeapFits (process_of (node_of node.now files) p.0) }
+    ensures { (files : Files) → result ≡ due (node_of node.now files) t.0 memory.now.map free }
+{
+    match node.does(t) {
+        Does::Stopped(Stop::Ecall) => change_at_once(node, memory, free, p, t, &node.regs(t)),
+        Does::InVm(change) => change_at_end(node, memory, free, p, &change),
+        _ => None,
+    }
+}
