@@ -1,15 +1,18 @@
 // The call of the program.
-ghost use Rattle.mcexec_run.specs.Calls.{CallCompletes, CallOutcome, names_to_fetch};
+ghost use Rattle.mcexec_run.specs.Calls.{CallCompletes, CallMachine, CallOutcome, hands_out, names_to_fetch};
 ghost use Rattle.mcexec_run.specs.Chain.{RoseAmong};
 ghost use Rattle.mcexec_run.specs.Commands.{command_of, second_word, third_word};
 ghost use Rattle.mck_report.specs.declared.status.Status.TheVariants.{HostFault, SinkFault};
 ghost use Rattle.outside.specs.Outside.{HostGoesOn, Rose, WhereTold};
-ghost use Rattle.std.specs.Prelude.{◌≡◌, ◌≤◌, []};
+ghost use Rattle.std.specs.Option.{option_map};
+ghost use Rattle.std.specs.Prelude.{◌≡◌, ◌≤◌, [], None, is_some};
 
+use crate::audits::{Audited, audit};
 use crate::checks::check;
 use crate::command::{Command, read_command};
 use crate::machine::Machine;
 use crate::replays::replay;
+use crate::single::SingleKernel;
 use crate::walks::{grow, walk};
 use hybrid_model::Event;
 use mck_report::Status;
@@ -35,6 +38,19 @@ fn answer(alloc: Global, status: Status) -> Ended
     }
 }
 
+// A call that runs no one-kernel machine.
+fn alone<O>(ended: Ended) -> Audited<O>
+    ensures status { result.status ≡ ended.status }
+    ensures journal { result.journal ≡ ended.journal }
+    ensures machine { result.machine ≡ None }
+{
+    Audited {
+        status: ended.status,
+        journal: ended.journal,
+        machine: None,
+    }
+}
+
 // The second word, where there is one.
 fn second_word(words: &[String]) -> &str
     ensures { result.now ≡ second_word words.now }
@@ -55,34 +71,45 @@ fn third_word(words: &[String]) -> &str
     }
 }
 
-/// Runs the command that the words are; each has the clauses of its call. `run` and `audit` are not built yet: an audit (`audit`) runs over any
-/// one-kernel machine, and the program has none so far.
-pub fn mcexec<M: Machine, H: Host, S: Sink>(
+/// Runs the command that the words are; each has the clauses of its call. An audit hands out its one-kernel machine where the trace was run to its
+/// end. `run` is not built yet.
+pub fn mcexec<M: Machine, O: SingleKernel, H: Host, S: Sink>(
     alloc: Global,
     words: &[String],
     host: &mut H,
     sink: &mut S,
-) -> Ended
+) -> Audited<O>
     ensures goes_on { HostGoesOn H.holds H.faults host.old host.new }
     ensures rises { S.faults sink.old ≤ S.faults sink.new }
     ensures outcome { WhereTold (H.holds host.old) (λ held.
         CallOutcome (command_of words.now) (second_word words.now) (third_word words.now) held result.status result.journal (S.taken sink.old) (S.taken sink.new)) }
+    ensures hands_out { is_some result.machine ≡ hands_out (command_of words.now) result.status }
+    ensures machine { WhereTold (H.holds host.old) (λ held.
+        CallMachine (command_of words.now) (second_word words.now) (third_word words.now) held result.status result.journal (option_map O.one result.machine)) }
     ensures host_fault { WhereTold (H.holds host.old) (λ held.
         result.status ≡ HostFault → RoseAmong H.faults host.old host.new (names_to_fetch (command_of words.now) (second_word words.now) (third_word words.now) held)) }
     ensures sink_fault { result.status ≡ SinkFault → Rose (S.faults sink.old) (S.faults sink.new) }
     ensures complete { WhereTold (H.holds host.old) (λ held. CallCompletes (command_of words.now) (second_word words.now) (third_word words.now) held result.status result.journal) }
 {
     match read_command(words) {
-        Some(Command::Walk { order, form }) => {
-            walk::<M, H, S>(alloc, second_word(words), order, form, host, sink)
-        }
-        Some(Command::Check) => check::<M, H, S>(alloc, second_word(words), host, sink),
+        Some(Command::Walk { order, form }) => alone(walk::<M, H, S>(
+            alloc,
+            second_word(words),
+            order,
+            form,
+            host,
+            sink,
+        )),
+        Some(Command::Check) => alone(check::<M, H, S>(alloc, second_word(words), host, sink)),
         Some(Command::Replay) => {
-            replay::<M, H, S>(alloc, second_word(words), third_word(words), host, sink)
+            let (job, trace) = (second_word(words), third_word(words));
+            alone(replay::<M, H, S>(alloc, job, trace, host, sink))
         }
-        Some(Command::Grow { guests, order }) => grow::<M, S>(alloc, guests, order, sink),
-        Some(Command::Audit) => answer(alloc, Status::NotBuilt),
-        Some(Command::Run { .. }) => answer(alloc, Status::NotBuilt),
-        None => answer(alloc, Status::BadWords),
+        Some(Command::Audit) => {
+            audit::<M, O, H, S>(alloc, second_word(words), third_word(words), host, sink)
+        }
+        Some(Command::Grow { guests, order }) => alone(grow::<M, S>(alloc, guests, order, sink)),
+        Some(Command::Run { .. }) => alone(answer(alloc, Status::NotBuilt)),
+        None => alone(answer(alloc, Status::BadWords)),
     }
 }

@@ -1,8 +1,9 @@
 // One call of the program over a host and a sink in memory.
 ghost use Rattle.std.specs.Prelude.{◌<◌};
 
-use mcexec_run::{Ended, mcexec};
+use mcexec_run::{Audited, mcexec};
 use one_files::RowFiles;
+use one_node::SingleNode;
 use outside::{MemHost, MemSink, Named};
 use page_map::PageMap;
 use pair_node::Pair;
@@ -38,10 +39,10 @@ pub fn call(
     words: &[&str],
     host: &mut MemHost,
     sink: &mut MemSink,
-) -> Result<Ended, Fail> {
+) -> Result<Audited<SingleNode>, Fail> {
     let mut owned = Vec::new(alloc);
     for word in words {
         owned.push(String::from_str(alloc, word)?)?;
     }
-    Ok(mcexec::<Node, MemHost, MemSink>(alloc, &owned, host, sink))
+    Ok(mcexec::<Node, SingleNode, MemHost, MemSink>(alloc, &owned, host, sink))
 }

@@ -4,7 +4,7 @@ use Rattle.mcexec_run.proofs.calls.mcexec.Goals as goal
 use Rattle.mcexec_run.specs.Calls.{CallCompletes, CallOutcome, names_to_fetch}
 use Rattle.mcexec_run.specs.Chain.{RoseAmong}
 use Rattle.mcexec_run.specs.Commands.{command_of, second_word, third_word}
-use Rattle.mcexec_run.specs.declared.command.Command.TheVariants.{Check, Grow, Replay, Walk}
+use Rattle.mcexec_run.specs.declared.command.Command.TheVariants.{Audit, Check, Grow, Replay, Walk}
 use Rattle.mck_report.specs.declared.status.Status.TheVariants.{HostFault}
 use Rattle.std.proofs.Common.{List, Some, ap, refl, sym, ◌∙◌, ◌≡◌}
 
@@ -12,44 +12,50 @@ pub returns-in-Some-Walk-clause-outcome : goal.returns-in-Some-Walk-clause-outco
 returns-in-Some-Walk-clause-outcome g c held told =
     let third = third_word c.args.words.now in
     let asked : Some (Walk c.in-Some-Walk.order c.in-Some-Walk.form) ≡ command_of c.args.words.now = sym (ap (λ x. Some x) c.in-Some-Walk.field-0-is) ∙ c.in-Some-Walk.ensures.value in
-    called (λ x a b s j. CallOutcome x a b held s j (g.S.Sink.taken c.args.sink.now) (g.S.Sink.taken c.walk.new.sink)) _ _ _ _ third third c.walk.result.status c.walk.result.status c.walk.result.journal c.walk.result.journal asked c.second_word.ensures refl refl refl (c.walk.ensures.outcome held told)
+    called (λ x a b s j. CallOutcome x a b held s j (g.S.Sink.taken c.args.sink.now) (g.S.Sink.taken c.walk.new.sink)) _ _ _ _ third third c.walk.result.status c.alone.result.status c.walk.result.journal c.alone.result.journal asked c.second_word.ensures refl c.alone.ensures.status c.alone.ensures.journal (c.walk.ensures.outcome held told)
 
 pub returns-in-Some-Walk-clause-host_fault : goal.returns-in-Some-Walk-clause-host_fault
 returns-in-Some-Walk-clause-host_fault g c held told =
     let third = third_word c.args.words.now in
     let asked : Some (Walk c.in-Some-Walk.order c.in-Some-Walk.form) ≡ command_of c.args.words.now = sym (ap (λ x. Some x) c.in-Some-Walk.field-0-is) ∙ c.in-Some-Walk.ensures.value in
-    called (λ x a b s (j : List Event). s ≡ HostFault → RoseAmong g.H.Host.faults c.args.host.now c.walk.new.host (names_to_fetch x a b held)) _ _ _ _ third third c.walk.result.status c.walk.result.status c.walk.result.journal c.walk.result.journal asked c.second_word.ensures refl refl refl (c.walk.ensures.host_fault held told)
+    called (λ x a b s (j : List Event). s ≡ HostFault → RoseAmong g.H.Host.faults c.args.host.now c.walk.new.host (names_to_fetch x a b held)) _ _ _ _ third third c.walk.result.status c.alone.result.status c.walk.result.journal c.alone.result.journal asked c.second_word.ensures refl c.alone.ensures.status c.alone.ensures.journal (c.walk.ensures.host_fault held told)
 
 pub returns-in-Some-Walk-clause-complete : goal.returns-in-Some-Walk-clause-complete
 returns-in-Some-Walk-clause-complete g c held told =
     let third = third_word c.args.words.now in
     let asked : Some (Walk c.in-Some-Walk.order c.in-Some-Walk.form) ≡ command_of c.args.words.now = sym (ap (λ x. Some x) c.in-Some-Walk.field-0-is) ∙ c.in-Some-Walk.ensures.value in
-    called (λ x a b s j. CallCompletes x a b held s j) _ _ _ _ third third c.walk.result.status c.walk.result.status c.walk.result.journal c.walk.result.journal asked c.second_word.ensures refl refl refl (c.walk.ensures.complete held told)
+    called (λ x a b s j. CallCompletes x a b held s j) _ _ _ _ third third c.walk.result.status c.alone.result.status c.walk.result.journal c.alone.result.journal asked c.second_word.ensures refl c.alone.ensures.status c.alone.ensures.journal (c.walk.ensures.complete held told)
 
 pub returns-in-Some-Check-clause-outcome : goal.returns-in-Some-Check-clause-outcome
 returns-in-Some-Check-clause-outcome g c held told =
     let third = third_word c.args.words.now in
     let asked : Some Check ≡ command_of c.args.words.now = sym (ap (λ x. Some x) c.in-Some-Check.field-0-is) ∙ c.in-Some-Check.ensures.value in
-    called (λ x a b s j. CallOutcome x a b held s j (g.S.Sink.taken c.args.sink.now) (g.S.Sink.taken c.check.new.sink)) _ _ _ _ third third c.check.result.status c.check.result.status c.check.result.journal c.check.result.journal asked c.second_word-in-Some-Check.ensures refl
-    refl refl (c.check.ensures.outcome held told)
+    called (λ x a b s j. CallOutcome x a b held s j (g.S.Sink.taken c.args.sink.now) (g.S.Sink.taken c.check.new.sink)) _ _ _ _ third third c.check.result.status c.alone-in-Some-Check.result.status c.check.result.journal c.alone-in-Some-Check.result.journal asked c.second_word-in-Some-Check.ensures refl
+    c.alone-in-Some-Check.ensures.status c.alone-in-Some-Check.ensures.journal (c.check.ensures.outcome held told)
 
 pub returns-in-Some-Replay-clause-outcome : goal.returns-in-Some-Replay-clause-outcome
 returns-in-Some-Replay-clause-outcome g c held told =
     let asked : Some Replay ≡ command_of c.args.words.now = sym (ap (λ x. Some x) c.in-Some-Replay.field-0-is) ∙ c.in-Some-Replay.ensures.value in
-    called (λ x a b s j. CallOutcome x a b held s j (g.S.Sink.taken c.args.sink.now) (g.S.Sink.taken c.replay.new.sink)) _ _ _ _ _ _ c.replay.result.status c.replay.result.status c.replay.result.journal c.replay.result.journal asked c.second_word-in-Some-Replay.ensures c.third_word.ensures
-    refl refl (c.replay.ensures.outcome held told)
+    called (λ x a b s j. CallOutcome x a b held s j (g.S.Sink.taken c.args.sink.now) (g.S.Sink.taken c.replay.new.sink)) _ _ _ _ _ _ c.replay.result.status c.alone-in-Some-Replay.result.status c.replay.result.journal c.alone-in-Some-Replay.result.journal asked c.second_word-job.ensures c.third_word-trace.ensures
+    c.alone-in-Some-Replay.ensures.status c.alone-in-Some-Replay.ensures.journal (c.replay.ensures.outcome held told)
 
 pub returns-in-Some-Grow-clause-outcome : goal.returns-in-Some-Grow-clause-outcome
 returns-in-Some-Grow-clause-outcome g c held told =
     let second = second_word c.args.words.now in
     let third = third_word c.args.words.now in
     let asked : Some (Grow c.in-Some-Grow.guests c.in-Some-Grow.order) ≡ command_of c.args.words.now = sym (ap (λ x. Some x) c.in-Some-Grow.field-0-is) ∙ c.in-Some-Grow.ensures.value in
-    called (λ x a b s j. CallOutcome x a b held s j (g.S.Sink.taken c.args.sink.now) (g.S.Sink.taken c.grow.new.sink)) _ _ second second third third c.grow.result.status c.grow.result.status c.grow.result.journal c.grow.result.journal asked refl refl
-    refl refl c.grow.ensures.outcome
+    called (λ x a b s j. CallOutcome x a b held s j (g.S.Sink.taken c.args.sink.now) (g.S.Sink.taken c.grow.new.sink)) _ _ second second third third c.grow.result.status c.alone-in-Some-Grow.result.status c.grow.result.journal c.alone-in-Some-Grow.result.journal asked refl refl
+    c.alone-in-Some-Grow.ensures.status c.alone-in-Some-Grow.ensures.journal c.grow.ensures.outcome
 
 pub returns-in-Some-Grow-clause-complete : goal.returns-in-Some-Grow-clause-complete
 returns-in-Some-Grow-clause-complete g c held told =
     let second = second_word c.args.words.now in
     let third = third_word c.args.words.now in
     let asked : Some (Grow c.in-Some-Grow.guests c.in-Some-Grow.order) ≡ command_of c.args.words.now = sym (ap (λ x. Some x) c.in-Some-Grow.field-0-is) ∙ c.in-Some-Grow.ensures.value in
-    called (λ x a b s j. CallCompletes x a b held s j) _ _ second second third third c.grow.result.status c.grow.result.status c.grow.result.journal c.grow.result.journal asked refl refl refl refl c.grow.ensures.complete
+    called (λ x a b s j. CallCompletes x a b held s j) _ _ second second third third c.grow.result.status c.alone-in-Some-Grow.result.status c.grow.result.journal c.alone-in-Some-Grow.result.journal asked refl refl c.alone-in-Some-Grow.ensures.status c.alone-in-Some-Grow.ensures.journal c.grow.ensures.complete
+
+pub returns-in-Some-Audit-clause-outcome : goal.returns-in-Some-Audit-clause-outcome
+returns-in-Some-Audit-clause-outcome g c held told =
+    let asked : Some Audit ≡ command_of c.args.words.now = sym (ap (λ x. Some x) c.in-Some-Audit.field-0-is) ∙ c.in-Some-Audit.ensures.value in
+    called (λ x a b s j. CallOutcome x a b held s j (g.S.Sink.taken c.args.sink.now) (g.S.Sink.taken c.audit.new.sink)) _ _ _ _ _ _ c.audit.result.status c.audit.result.status c.audit.result.journal c.audit.result.journal asked c.second_word-in-Some-Audit.ensures c.third_word.ensures
+    refl refl (c.audit.ensures.outcome held told)
