@@ -1,5 +1,5 @@
 #!/usr/bin/env python3
-"""Measures walks and replays of the program: what an event and an instruction cost, at a tenth of a size and at the whole of it.
+"""Measures walks, replays and audits of the program: what an event and an instruction cost, at a tenth of a size and at the whole of it.
 
     walks.py [TRIES]
 
@@ -122,8 +122,11 @@ def main():
     row("walk, instructions", *spins.items(), "n instruction")
     # two guests, so that a thousand and a million events are 55 and 49,000 writes each
     tenth, whole = writers(2, 4900), writers(2, 49000)
-    for command in ("walk", "replay"):
-        row(f"{command}, events", measured(tenth, tries, command, base), measured(whole, tries, command, base), "n event")
+    times = {}
+    for command in ("walk", "replay", "audit"):
+        times[command] = measured(tenth, tries, command, base), measured(whole, tries, command, base)
+        row(f"{command}, events", *times[command], "n event")
+    print(f"{'audit over walk':26} {times['audit'][1][1] / times['walk'][1][1]:>10.2f}")
     row("walk, guests", measured(writers(1, 6000), tries, "walk", base), measured(writers(16, 375), tries, "walk", base), "n event")
     grown = {n: least(Job([spinner(4)], frames=32), tries, "grow", str(n)) for n in (1, 16)}
     print(f"{'grow 1, grow 16':26} {grown[1] * 1000:>9.1f} {grown[16] * 1000:>10.1f}  ms")

@@ -1,5 +1,5 @@
 #!/usr/bin/env python3
-"""Runs the commands of the built program that aren't walks: replays of a trace that is whole, changed or cut short, checks, growing jobs, and words that fit none.
+"""Runs the commands of the built program that aren't walks: replays and audits of a trace that is whole, changed or cut short, checks, growing jobs, and words that fit none.
 
 Expected are the texts and statuses of docs/FORMATS.md, over the rows `ExitCodeSeven` and `Hello` of rows.py.
 """
@@ -32,9 +32,12 @@ class Row:
     def run(self, *words):
         return subprocess.run([PROGRAM, *words], cwd=self.folder, capture_output=True, timeout=100)
 
-    def replay(self, lines):
+    def traced(self, command, lines):
         (self.folder / "trace").write_text("".join(line + "\n" for line in lines))
-        return self.run("replay", "job", "trace")
+        return self.run(command, "job", "trace")
+
+    def replay(self, lines):
+        return self.traced("replay", lines)
 
 
 def differs(ran, status, output, told=""):
@@ -63,6 +66,32 @@ def replays(row):
     yield "replay of an absent trace", differs(row.run("replay", "job", "absent"), 7, b"", "mcexec: host fault")
 
 
+def audits(row):
+    whole = row.trace
+    yield "audit of the whole trace", differs(row.traced("audit", whole), 0, row.report)
+    for what, lines in (
+        ("exchanged lines", exchanged(whole, "pin 1 0", "copy 1 0")[0]),
+        ("a trace without the last line", whole[:-1]),
+        ("another version", ["mctrace 9", *whole[1:]]),
+        ("what is no entry", [*whole[:3], "nothing", *whole[3:]]),
+    ):
+        replayed = row.replay(lines)
+        yield f"audit of {what} as its replay", differs(row.traced("audit", lines), replayed.returncode, replayed.stdout, replayed.stderr.decode().strip())
+    yield "audit of an absent trace", differs(row.run("audit", "job", "absent"), 7, b"", "mcexec: host fault")
+
+
+def audits_of_walks():
+    """Of every row in several orders: the audit of the walk's trace writes what its replay writes, and ends so."""
+    for name in RUNS:
+        row = Row(name)
+        for order in ("0", "1", "7"):
+            walked = row.run("walk", "job", order, "trace")
+            (row.folder / "trace").write_bytes(walked.stdout)
+            replayed = row.run("replay", "job", "trace")
+            audited = row.run("audit", "job", "trace")
+            yield f"audit of {name} in order {order}", differs(audited, replayed.returncode, replayed.stdout, replayed.stderr.decode().strip())
+
+
 def others(row):
     yield "check", differs(row.run("check", "job"), 0, CHECKED.encode())
     yield "check of an absent job", differs(row.run("check", "absent"), 7, b"", "mcexec: host fault")
@@ -78,7 +107,7 @@ def main():
         print("skipped: the program isn't built (rt run in crates/mcexec)")
         return 0
     wrong = count = 0
-    for name, said in (*replays(Row("Hello")), *others(Row("ExitCodeSeven"))):
+    for name, said in (*replays(Row("Hello")), *audits(Row("Hello")), *audits_of_walks(), *others(Row("ExitCodeSeven"))):
         count += 1
         wrong += bool(said)
         print(f"{name}: {said or 'as it should be'}")
