@@ -1,7 +1,7 @@
 // One call of the program over a host and a sink in memory.
 ghost use Rattle.std.specs.Prelude.{◌<◌};
 
-use mcexec_run::{Audited, mcexec};
+use mcexec_run::{Ended, mcexec};
 use one_files::RowFiles;
 use one_node::SingleNode;
 use outside::{MemHost, MemSink, Named};
@@ -39,10 +39,14 @@ pub fn call(
     words: &[&str],
     host: &mut MemHost,
     sink: &mut MemSink,
-) -> Result<Audited<SingleNode>, Fail> {
+) -> Result<Ended, Fail> {
     let mut owned = Vec::new(alloc);
     for word in words {
         owned.push(String::from_str(alloc, word)?)?;
     }
-    Ok(mcexec::<Node, SingleNode, MemHost, MemSink>(alloc, &owned, host, sink))
+    let audited = mcexec::<Node, SingleNode, MemHost, MemSink>(alloc, &owned, host, sink);
+    Ok(Ended {
+        status: audited.status,
+        journal: audited.journal,
+    })
 }
