@@ -33,7 +33,12 @@ use sv_table::SvTable;
 type Node = Pair<SvTable, LinuxFiles>;
 
 /// Runs the command that the words are.
-fn answer<H: Host, S: Sink>(alloc: Global, words: &[String], host: &mut H, sink: &mut S) -> Audited<SingleNode>
+fn answer<H: Host, S: Sink>(
+    alloc: Global,
+    words: &[String],
+    host: &mut H,
+    sink: &mut S,
+) -> Audited<SingleNode>
     ensures goes_on { HostGoesOn H.holds H.faults host.old host.new }
     ensures rises { S.faults sink.old ≤ S.faults sink.new }
     ensures outcome { WhereTold (H.holds host.old) (λ held.
