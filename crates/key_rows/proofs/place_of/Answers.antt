@@ -1,20 +1,11 @@
-use Rattle.std.proofs.Common.{◌+◌, ◌-◌, ◌/◌, ◌<◌, length, arith}
-use Rattle.key_rows.proofs.Placed.{place-le, place-above, place-below}
+use Rattle.std.proofs.Common.{◌-◌, ◌<◌, arith, length, sym}
+use Rattle.key_rows.proofs.Placed.{place-at}
 use Rattle.key_rows.proofs.place_of.Goals as goal
 
-pub loop-low-init : goal.loop-low-init
-loop-low-init g c = (omega arith, place-le c.args.key c.args.rows.now, omega arith)
-
-pub loop-low-preserved-then-rows-middle : goal.loop-low-preserved-then-rows-middle
-loop-low-preserved-then-rows-middle g c =
-    let middle = c.loop-low.low + (c.loop-low.high - c.loop-low.low) / 2 in
-    let within : middle < length c.args.rows.now = omega arith in
-    let above = place-above c.args.key middle c.args.rows.now c.index-rows-middle.result c.requires within c.if-rows-middle.true in
-    (omega arith, c.loop-low.invariant.1, c.loop-low.invariant.2)
-
-pub loop-low-preserved : goal.loop-low-preserved
-loop-low-preserved g c =
-    let middle = c.loop-low.low + (c.loop-low.high - c.loop-low.low) / 2 in
-    let within : middle < length c.args.rows.now = omega arith in
-    let below = place-below c.args.key middle c.args.rows.now c.index-rows-middle.result within c.if-rows-middle.false in
-    (c.loop-low.invariant.0, below, omega arith)
+pub returns-then-rows-before-clause-at : goal.returns-then-rows-before-clause-at
+returns-then-rows-before-clause-at g c =
+    let first = c.if-key-ge1.true in
+    let last = c.if-key-rows.true in
+    let within : c.args.key - 1 < length c.args.rows.now = omega arith in
+    let d = c.index-rows-before.result in
+    sym (place-at c.args.key (c.args.key - 1) c.args.rows.now d c.requires within c.if-rows-before.true)

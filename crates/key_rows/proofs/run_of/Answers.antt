@@ -1,4 +1,4 @@
-use Rattle.std.proofs.Common.{◌≡◌, ◌≢◌, ◌+◌, ◌-◌, ◌/◌, ◌<◌, ◌∙◌, ap, sym, length, arith}
+use Rattle.std.proofs.Common.{◌≡◌, ◌+◌, ◌-◌, ◌/◌, ◌<◌, ◌∙◌, length, arith}
 use Rattle.key_rows.proofs.Runs.{from-zero, run-above, run-below, run-le, run-lowest, run}
 use Rattle.key_rows.proofs.run_of.Goals as goal
 

@@ -1,4 +1,4 @@
-use Rattle.std.proofs.Common.{◌≡◌, ◌≤◌, ◌∙◌, ap, sym, length, arith}
+use Rattle.std.proofs.Common.{◌∙◌, ap, sym, length, arith}
 use Rattle.key_rows.proofs.Placed.{len-from_sorted}
 use Rattle.mck_word.specs.Lists.{lowest_not_in}
 use Rattle.std.specs.FinMap as map

@@ -1,4 +1,4 @@
-use Rattle.std.proofs.Common.{◌≡◌, ◌≤◌, subst, sym, ap, ◌∙◌, rules, arith, length}
+use Rattle.std.proofs.Common.{◌≡◌, subst, sym, ap, ◌∙◌, rules, arith}
 use Rattle.std.specs.Prelude.{T}
 use Rattle.std.specs.Ordering.{nat_cmp}
 use Rattle.std.specs.FinMap as map
