@@ -6,11 +6,15 @@ use Rattle.file_model.specs.declared.descriptions.Target.{Target}
 use Rattle.file_model.specs.declared.descriptions.Target.TheVariants.{OfNode, ReadEnd, WriteEnd, OfConsole}
 use Rattle.file_model.specs.declared.operations.FileOp.{FileOp}
 use Rattle.file_model.specs.declared.operations.FileOp.TheVariants.{Openat, Mkdirat, Unlinkat, Close, Lseek, Ioctl, Pipe2, Fstat, Getdents, Read, Write, Get, Put, Leave}
-use Rattle.std.specs.Prelude.{ℕ, ◌+◌, ◌≤◌, length, Option}
+use Rattle.std.specs.Prelude.{ℕ, ◌+◌, ◌≤◌, cond, length, nat_lt, Option}
+
+-- where n bytes from an offset end in a file, cut at its limit: 0 where the offset lies at or past it, and nothing is written
+abbrev pub file_end : ℕ → ℕ → ℕ
+file_end offset n = cond (nat_lt offset most_file_bytes) (offset + cut_at most_file_bytes offset n) 0
 
 -- where a written piece of n bytes ends in its target
 abbrev pub put_end : Files → ℕ → Option ℕ → ℕ → ℕ → Target → ℕ
-put_end files d at moved n (OfNode node) = let offset = write_offset files (description_of files d) at moved in offset + cut_at most_file_bytes offset n
+put_end files d at moved n (OfNode node) = file_end (write_offset files (description_of files d) at moved) n
 put_end files d at moved n (ReadEnd p) = 0
 put_end files d at moved n (WriteEnd p) = let there = length (pipe_of files p) in there + cut_at most_pipe_bytes there n
 put_end files d at moved n (OfConsole guest) = let there = length (console_of files guest).output in there + cut_at most_console_bytes there n

@@ -29,12 +29,13 @@ mod room;
 mod settle;
 mod store;
 
-ghost use Rattle.std.specs.Prelude.{◌≡◌, IfOk, IsTrue, is_some};
+ghost use Rattle.std.specs.Prelude.{◌≡◌, ◌-◌, ◌^◌, IfOk, IsTrue, is_some, nat_lt};
 ghost use Rattle.file_calls.specs.FileSteps.{FewCalls};
 ghost use Rattle.file_model.specs.Files.{description_of, root_only};
+ghost use Rattle.file_model.specs.declared.descriptions.Description.{Description};
 ghost use Rattle.linux_files.specs.Ends.{pipe_end};
 ghost use Rattle.linux_files.specs.Seen.{seen_parts};
-ghost use Rattle.mck_word.specs.Maps.{at};
+ghost use Rattle.mck_word.specs.Maps.{at, each_row};
 
 use file_model::Target;
 use mck_word::{NoMemory, Pid};
@@ -74,7 +75,8 @@ impl LinuxFiles {
 
     /// Whether each description is held by so few calls that one more can be counted. All of them are gone through.
     pub fn few_calls(&self) -> bool
-        ensures { IsTrue result → FewCalls (seen_parts self.now) }
+        ensures exactly { result ≡ each_row (λ d (x : Description). nat_lt x.calls (2 ^ 32 - 1)) (seen_parts self.now).descriptions }
+        ensures few { IsTrue result → FewCalls (seen_parts self.now) }
     {
         self.parts.few_calls()
     }

@@ -6,7 +6,7 @@ ghost use Rattle.file_model.specs.Files.{description_of, descriptors_of, is_open
 ghost use Rattle.file_model.specs.declared.descriptions.Target.TheVariants.{OfConsole};
 ghost use Rattle.file_model.specs.declared.descriptions.Description.{Description as Shown};
 ghost use Rattle.linux_files.specs.Seen.{IsStore, seen_parts};
-ghost use Rattle.mck_word.specs.Maps.{count};
+ghost use Rattle.mck_word.specs.Maps.{count, each_row};
 
 use crate::open_file::OpenFile;
 use crate::parts::Parts;
@@ -82,7 +82,8 @@ impl Parts {
 
     /// Whether each description is held by so few calls that one more can be counted. All of them are gone through.
     pub(crate) fn few_calls(&self) -> bool
-        ensures { IsTrue result → FewCalls (seen_parts self.now) }
+        ensures exactly { result ≡ each_row (λ d (x : Shown). nat_lt x.calls (2 ^ 32 - 1)) (seen_parts self.now).descriptions }
+        ensures few { IsTrue result → FewCalls (seen_parts self.now) }
     {
         are_few(self.descriptions.as_slice())
     }

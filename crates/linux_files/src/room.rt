@@ -1,6 +1,6 @@
 // Room.
 ghost use Rattle.std.specs.Prelude.{◌≡◌, ◌≤◌, ◌<◌, ◌+◌, ◌-◌, ◌^◌, OnOk, min};
-ghost use Rattle.file_calls.specs.Pieces.{HasPutRoom, HasRoom, put_end};
+ghost use Rattle.file_calls.specs.Pieces.{HasPutRoom, HasRoom, file_end, put_end};
 ghost use Rattle.file_model.specs.Files.{description_of};
 ghost use Rattle.file_model.specs.Streams.{cut_at, write_offset};
 ghost use Rattle.linux_files.specs.Rooms.{HasCounts, can_write_parts, room_of_parts};
@@ -15,7 +15,7 @@ use mck_word::NoMemory;
 /// How many names a process gets at most.
 const MOST_DESCRIPTORS: u64 = 64;
 
-/// Where a piece of `len` bytes from an offset ends, cut at the most bytes that there may be, as far as a u64 tells it.
+/// Where a piece of `len` bytes from an offset ends, cut at the most bytes that there may be.
 fn end_of(most: u64, offset: u64, len: u32) -> u64
     requires { most < 2 ^ 32 }
     ensures { result ≡ offset + cut_at most offset len }
@@ -38,17 +38,25 @@ impl Parts {
         }
     }
 
-    /// Where a written piece ends in its target, as far as a u64 tells it.
+    /// Where a piece ends in a file: 0 where its offset lies at or past the limit of a file, since nothing is written there.
+    fn file_end_of(&self, description: Description, at: Option<u64>, moved: u32, len: u32) -> u64
+        requires { description.offset < 2 ^ 63 }
+        ensures { result ≡ file_end (write_offset (seen_parts self.now) description at moved) len }
+    {
+        let offset = self.offset_of(description, at, moved);
+        if offset >= MOST_FILE_BYTES {
+            return 0;
+        }
+        end_of(MOST_FILE_BYTES, offset, len)
+    }
+
+    /// Where a written piece ends in its target.
     fn put_end_of(&self, d: u32, at: Option<u64>, moved: u32, len: u32) -> u64
-        ensures { result ≡ min (put_end (seen_parts self.now) d at moved len (description_of (seen_parts self.now) d).target) (2 ^ 64 - 1) }
+        ensures { result ≡ put_end (seen_parts self.now) d at moved len (description_of (seen_parts self.now) d).target }
     {
         let description = self.description_of(d);
         match description.target {
-            Target::OfNode(_) => end_of(
-                MOST_FILE_BYTES,
-                self.offset_of(description, at, moved),
-                len,
-            ),
+            Target::OfNode(_) => self.file_end_of(description, at, moved, len),
             Target::ReadEnd(_) => 0,
             Target::WriteEnd(pipe) => end_of(MOST_PIPE_BYTES, self.pipes.len(pipe as u64), len),
             Target::OfConsole(guest) => {
@@ -70,7 +78,7 @@ impl Parts {
         }
     }
 
-    /// Makes the room that a written piece needs. Also fails where it ends past what a u64 tells.
+    /// Makes the room that a written piece needs.
     fn reserve_piece(
         &mut self,
         d: u32,
@@ -82,9 +90,6 @@ impl Parts {
         ensures room { OnOk result (HasPutRoom (can_write_parts self.new) (seen_parts self.new) d at moved len) }
     {
         let end = self.put_end_of(d, at, moved, len);
-        if end == u64::MAX {
-            return Err(NoMemory);
-        }
         self.reserve_target(self.description_of(d).target, end)
     }
 

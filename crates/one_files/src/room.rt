@@ -1,7 +1,7 @@
 // The room that an operation needs.
 ghost use Rattle.std.specs.Prelude.{◌≡◌, ◌≤◌, ◌<◌, ◌+◌, ◌-◌, ◌^◌, OnOk, length, min};
 ghost use Rattle.std.specs.Vec.{vec_capacity};
-ghost use Rattle.file_calls.specs.Pieces.{HasRoom, put_end};
+ghost use Rattle.file_calls.specs.Pieces.{HasRoom, file_end, put_end};
 ghost use Rattle.file_model.specs.Files.{console_of, description_of, node_of, pipe_of};
 ghost use Rattle.file_model.specs.Streams.{cut_at, write_offset};
 ghost use Rattle.one_files.specs.Seen.{can_write_of, room_of, seen};
@@ -21,7 +21,7 @@ const NO_DESCRIPTION: Description = Description {
     calls: 0,
 };
 
-/// Where a piece of `len` bytes from an offset ends, cut at the most bytes that there may be, as far as a u64 tells it.
+/// Where a piece of `len` bytes from an offset ends, cut at the most bytes that there may be.
 fn end_of(most: u64, offset: u64, len: u32) -> u64
     requires { most < 2 ^ 32 }
     ensures { result ≡ offset + cut_at most offset len }
@@ -97,17 +97,25 @@ impl RowFiles {
         }
     }
 
-    /// Where a written piece ends in its target, as far as a u64 tells it.
+    /// Where a piece ends in a file: 0 where its offset lies at or past the limit of a file, since nothing is written there.
+    fn file_end_of(&self, description: Description, at: Option<u64>, moved: u32, len: u32) -> u64
+        requires { description.offset < 2 ^ 63 }
+        ensures { result ≡ file_end (write_offset (seen self.now) description at moved) len }
+    {
+        let offset = self.offset_of(description, at, moved);
+        if offset >= MOST_FILE_BYTES {
+            return 0;
+        }
+        end_of(MOST_FILE_BYTES, offset, len)
+    }
+
+    /// Where a written piece ends in its target.
     fn put_end_of(&self, d: u32, at: Option<u64>, moved: u32, len: u32) -> u64
-        ensures { result ≡ min (put_end (seen self.now) d at moved len (description_of (seen self.now) d).target) (2 ^ 64 - 1) }
+        ensures { result ≡ put_end (seen self.now) d at moved len (description_of (seen self.now) d).target }
     {
         let description = self.description_of(d);
         match description.target {
-            Target::OfNode(_) => end_of(
-                MOST_FILE_BYTES,
-                self.offset_of(description, at, moved),
-                len,
-            ),
+            Target::OfNode(_) => self.file_end_of(description, at, moved, len),
             Target::ReadEnd(_) => 0,
             Target::WriteEnd(pipe) => end_of(MOST_PIPE_BYTES, self.pipe_len_of(pipe), len),
             Target::OfConsole(guest) => end_of(MOST_CONSOLE_BYTES, self.output_len_of(guest), len),
