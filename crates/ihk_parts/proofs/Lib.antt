@@ -1,2 +1,4 @@
 pub mod Passed
+pub mod Places
+pub mod Rising
 pub mod Turned

@@ -1,18 +1,16 @@
 -- Offers passed over in one list after another.
 use Rattle.hybrid_model.specs.Pairs.{Pair}
-use Rattle.ihk_parts.specs.Passing.{Goes, as_chosen, offers_of, still_sought, those_behind}
+use Rattle.ihk_parts.specs.Passing.{Goes, as_chosen, offers_of}
 use Rattle.ihk_parts.specs.declared.passing.Choice.{Choice}
-use Rattle.ihk_parts.specs.declared.passing.Pass.{Pass}
 use Rattle.mck_word.specs.Identifiers.{pid}
 use Rattle.mck_word.specs.Lists.{count_from}
 use Rattle.mck_word.specs.Maps.{keys}
 use Rattle.mck_word.specs.declared.Pid.{Pid}
-use Rattle.run_model.specs.Walks.{Chosen, actors, actors_of_process, behind, chosen_by, first_chosen, is_same_actor, next_in_turn}
+use Rattle.run_model.specs.Walks.{Chosen, actors, actors_of_process, behind, chosen_by, first_chosen, next_in_turn}
 use Rattle.run_model.specs.declared.actors.Actor.{Actor}
 use Rattle.run_model.specs.declared.actors.Actor.TheVariants.{Core, Script, Worker}
-use Rattle.std.proofs.Common.{◌≡◌, ℕ, zero, suc, ◌+◌, ◌-◌, ◌<◌, ◌≤◌, List, [], ◌∷◌, ◌++◌, length, map, Option, Some, None, refl, sym, ◌∙◌, ap, subst, arith, length-append, append_assoc, Bool, true, false, cond, ◌||◌, ◌*◌, flat_map, get_or}
-use Rattle.std.proofs.lemmas.List.{append-nil}
-use Rattle.std.specs.List.{cons_option, filter_map, list_any, slice_get}
+use Rattle.std.proofs.Common.{◌≡◌, ℕ, zero, suc, ◌+◌, ◌-◌, ◌<◌, ◌≤◌, List, [], ◌∷◌, ◌++◌, length, map, Option, Some, None, refl, sym, ◌∙◌, ap, subst, arith, length-append, ◌*◌, flat_map, get_or}
+use Rattle.std.specs.List.{cons_option, slice_get}
 
 -- ---- offers of lists
 
@@ -35,66 +33,27 @@ get-back : {X : Type 0} (xs ys : List X) (i : ℕ) → slice_get (xs ++ ys) (i +
 get-back [] ys i = (let e : i + 0 ≡ i = omega arith in ap (slice_get ys) e)
 get-back (x ∷ xs) ys i = (let e : i + length (x ∷ xs) ≡ suc (i + length xs) = omega arith in ap (slice_get (x ∷ (xs ++ ys))) e ∙ get-back xs ys i)
 
--- the actors behind the one that is sought, list by list
-behind-append : (a : Actor) (xs ys : List Actor) → behind a (xs ++ ys) ≡ behind a xs ++ those_behind (still_sought (Some a) xs) ys
-behind-append a [] ys = refl
-behind-append a (x ∷ xs) ys = at_first (is_same_actor a x) (behind-append a xs ys)
-  where
-    at_first : (t : Bool) → behind a (xs ++ ys) ≡ behind a xs ++ those_behind (still_sought (Some a) xs) ys
-        → cond t (xs ++ ys) (behind a (xs ++ ys)) ≡ cond t xs (behind a xs) ++ those_behind (cond (t || list_any (is_same_actor a) xs) None (Some a)) ys
-    at_first true e = refl
-    at_first false e = e
-
-those-append : (s : Option Actor) (xs ys : List Actor) → those_behind s (xs ++ ys) ≡ those_behind s xs ++ those_behind (still_sought s xs) ys
-those-append None xs ys = refl
-those-append (Some a) xs ys = behind-append a xs ys
-
-any-append : (a : Actor) (xs ys : List Actor) → list_any (is_same_actor a) (xs ++ ys) ≡ (list_any (is_same_actor a) xs || list_any (is_same_actor a) ys)
-any-append a [] ys = refl
-any-append a (x ∷ xs) ys = at_first (is_same_actor a x) (any-append a xs ys)
-  where
-    at_first : (t : Bool) → list_any (is_same_actor a) (xs ++ ys) ≡ (list_any (is_same_actor a) xs || list_any (is_same_actor a) ys)
-        → (t || list_any (is_same_actor a) (xs ++ ys)) ≡ ((t || list_any (is_same_actor a) xs) || list_any (is_same_actor a) ys)
-    at_first true e = refl
-    at_first false e = e
-
-still-append : (s : Option Actor) (xs ys : List Actor) → still_sought s (xs ++ ys) ≡ still_sought (still_sought s xs) ys
-still-append None xs ys = refl
-still-append (Some a) xs ys = ap (λ t. cond t None (Some a)) (any-append a xs ys) ∙ either (list_any (is_same_actor a) xs)
-  where
-    either : (t : Bool) → cond {A = Option Actor} (t || list_any (is_same_actor a) ys) None (Some a) ≡ still_sought (cond t None (Some a)) ys
-    either true = refl
-    either false = refl
-
-offers-those : (pair : Pair) (s : Option Actor) (xs ys : List Actor) → offers_of pair (those_behind s (xs ++ ys)) ≡ offers_of pair (those_behind s xs) ++ offers_of pair (those_behind (still_sought s xs) ys)
-offers-those pair s xs ys = ap (offers_of pair) (those-append s xs ys) ∙ offers-append pair (those_behind s xs) (those_behind (still_sought s xs) ys)
-
 -- ---- one list after another
 
-pub goes_on : (pair : Pair) (xs ys : List Actor) (a b : Pass) (r : Option Choice) (c : Pass) → Goes pair xs a None b → Goes pair ys b r c → Goes pair (xs ++ ys) a r c
+pub goes_on : (pair : Pair) (xs ys : List Actor) (a b : ℕ) (r : Option Choice) (c : ℕ) → Goes pair xs a None b → Goes pair ys b r c → Goes pair (xs ++ ys) a r c
 goes_on pair xs ys a b None c p q =
-    let front = offers_of pair (those_behind a.sought xs) in
-    let back = offers_of pair (those_behind b.sought ys) in
-    let whole : length (offers_of pair (those_behind a.sought (xs ++ ys))) ≡ length front + length back =
-    ap length (offers-those pair a.sought xs ys) ∙ (length-append front (offers_of pair (those_behind (still_sought a.sought xs) ys)) ∙ ap (λ s. length front + length (offers_of pair (those_behind s ys))) (sym p.1)) in
-    (omega (arith, p.0, q.0, whole), q.1 ∙ (ap (λ s. still_sought s ys) p.1 ∙ sym (still-append a.sought xs ys)))
+    let whole : length (offers_of pair (xs ++ ys)) ≡ length (offers_of pair xs) + length (offers_of pair ys) = ap length (offers-append pair xs ys) ∙ length-append (offers_of pair xs) (offers_of pair ys) in
+    omega (arith, p, q, whole)
 goes_on pair xs ys a b (Some x) c p q =
-    let front = offers_of pair (those_behind a.sought xs) in
-    let back = offers_of pair (those_behind b.sought ys) in
-    ap (λ s. slice_get s a.skip) (offers-those pair a.sought xs ys)
-    ∙ (ap (λ s. slice_get (front ++ offers_of pair (those_behind s ys)) a.skip) (sym p.1) ∙ (ap (slice_get (front ++ back)) p.0 ∙ (get-back front back b.skip ∙ q)))
+    ap (λ s. slice_get s a) (offers-append pair xs ys) ∙ (ap (slice_get (offers_of pair xs ++ offers_of pair ys)) p ∙ (get-back (offers_of pair xs) (offers_of pair ys) b ∙ q))
 
-pub goes_first : (pair : Pair) (xs ys : List Actor) (a : Pass) (x : Choice) (b c : Pass) → Goes pair xs a (Some x) b → Goes pair (xs ++ ys) a (Some x) c
-goes_first pair xs ys a x b c p =
-    ap (λ s. slice_get s a.skip) (offers-those pair a.sought xs ys)
-    ∙ get-front (offers_of pair (those_behind a.sought xs)) (offers_of pair (those_behind (still_sought a.sought xs) ys)) a.skip (as_chosen x) p
+pub goes_first : (pair : Pair) (xs ys : List Actor) (a : ℕ) (x : Choice) (b c : ℕ) → Goes pair xs a (Some x) b → Goes pair (xs ++ ys) a (Some x) c
+goes_first pair xs ys a x b c p = ap (λ s. slice_get s a) (offers-append pair xs ys) ∙ get-front (offers_of pair xs) (offers_of pair ys) a (as_chosen x) p
 
-pub goes_nowhere : (pair : Pair) (a : Pass) → Goes pair [] a None a
-goes_nowhere pair a = nowhere a.sought refl
-  where
-    nowhere : (s : Option Actor) → a.sought ≡ s → (a.skip ≡ a.skip + length (offers_of pair (those_behind a.sought []))) × (a.sought ≡ still_sought a.sought [])
-    nowhere None e = rw e (omega arith, refl)
-    nowhere (Some x) e = rw e (omega arith, refl)
+pub goes_nowhere : (pair : Pair) (a : ℕ) → Goes pair [] a None a
+goes_nowhere pair a = omega arith
+
+-- the same, where the list is had in another form
+pub goes_same : (pair : Pair) (xs ys : List Actor) (a : ℕ) (r : Option Choice) (c : ℕ) → xs ≡ ys → Goes pair ys a r c → Goes pair xs a r c
+goes_same pair xs ys a r c e p = subst (λ zs. Goes pair zs a r c) (sym e) p
+
+pub goes_none : (pair : Pair) (xs : List Actor) (a : ℕ) → xs ≡ [] → Goes pair xs a None a
+goes_none pair xs a e = goes_same pair xs [] a None a e (goes_nowhere pair a)
 
 -- ---- actors by number
 
@@ -106,21 +65,21 @@ below-split : (f : ℕ → Actor) (from total : ℕ) → from < total → below 
 below-split f from total h = let e : total - from ≡ suc (total - (from + 1)) = omega arith in ap (λ n. map f (count_from from n)) e
 
 -- what is passed of the rest is passed of the whole
-abbrev pub Leads : Pair → List Actor → Pass → List Actor → Pass → Type 0
-Leads pair all start rest now = (r : Option Choice) (c : Pass) → Goes pair rest now r c → Goes pair all start r c
+abbrev pub Leads : Pair → List Actor → ℕ → List Actor → ℕ → Type 0
+Leads pair all start rest now = (r : Option Choice) (c : ℕ) → Goes pair rest now r c → Goes pair all start r c
 
-pub leads_first : (pair : Pair) (f : ℕ → Actor) (total : ℕ) (start : Pass) → Leads pair (map f (count_from 0 total)) start (below f 0 total) start
-leads_first pair f total start r c p = let e : total - 0 ≡ total = omega arith in subst (λ n. Goes pair (map f (count_from 0 n)) start r c) e p
+pub leads_first : (pair : Pair) (all : List Actor) (start : ℕ) → Leads pair all start all start
+leads_first pair all start r c p = p
 
-pub leads_on : (pair : Pair) (all : List Actor) (start : Pass) (f : ℕ → Actor) (from total : ℕ) (a b : Pass) → from < total → Leads pair all start (below f from total) a → Goes pair (f from ∷ []) a None b → Leads pair all start (below f (from + 1) total) b
+pub leads_on : (pair : Pair) (all : List Actor) (start : ℕ) (f : ℕ → Actor) (from total : ℕ) (a b : ℕ) → from < total → Leads pair all start (below f from total) a → Goes pair (f from ∷ []) a None b → Leads pair all start (below f (from + 1) total) b
 leads_on pair all start f from total a b h l p r c q =
     l r c (subst (λ xs. Goes pair xs a r c) (sym (below-split f from total h)) (goes_on pair (f from ∷ []) (below f (from + 1) total) a b r c p q))
 
-pub leads_found : (pair : Pair) (all : List Actor) (start : Pass) (f : ℕ → Actor) (from total : ℕ) (a : Pass) (x : Choice) (b c : Pass) → from < total → Leads pair all start (below f from total) a → Goes pair (f from ∷ []) a (Some x) b → Goes pair all start (Some x) c
+pub leads_found : (pair : Pair) (all : List Actor) (start : ℕ) (f : ℕ → Actor) (from total : ℕ) (a : ℕ) (x : Choice) (b c : ℕ) → from < total → Leads pair all start (below f from total) a → Goes pair (f from ∷ []) a (Some x) b → Goes pair all start (Some x) c
 leads_found pair all start f from total a x b c h l p =
     l (Some x) c (subst (λ xs. Goes pair xs a (Some x) c) (sym (below-split f from total h)) (goes_first pair (f from ∷ []) (below f (from + 1) total) a x b c p))
 
-pub leads_to_end : (pair : Pair) (all : List Actor) (start : Pass) (f : ℕ → Actor) (from total : ℕ) (a : Pass) → total ≤ from → Leads pair all start (below f from total) a → Goes pair all start None a
+pub leads_to_end : (pair : Pair) (all : List Actor) (start : ℕ) (f : ℕ → Actor) (from total : ℕ) (a : ℕ) → total ≤ from → Leads pair all start (below f from total) a → Goes pair all start None a
 leads_to_end pair all start f from total a h l =
     let e : total - from ≡ 0 = omega arith in
     l None a (subst (λ n. Goes pair (map f (count_from from n)) a None a) (sym e) (goes_nowhere pair a))
@@ -130,15 +89,15 @@ leads_to_end pair all start f from total a h l =
 abbrev pub processes_actors : Pair → List Pid → List Actor
 processes_actors pair pids = flat_map (actors_of_process pair) (map (λ (p : Pid). p.0) pids)
 
-pub process_passed : (pair : Pair) (rest more : List Pid) (p : Pid) (a b : Pass) (r : Option Choice) (c : Pass) → rest ≡ p ∷ more → Goes pair (actors_of_process pair p.0) a None b → Goes pair (processes_actors pair more) b r c → Goes pair (processes_actors pair rest) a r c
+pub process_passed : (pair : Pair) (rest more : List Pid) (p : Pid) (a b : ℕ) (r : Option Choice) (c : ℕ) → rest ≡ p ∷ more → Goes pair (actors_of_process pair p.0) a None b → Goes pair (processes_actors pair more) b r c → Goes pair (processes_actors pair rest) a r c
 process_passed pair rest more p a b r c e f h =
     subst (λ ps. Goes pair (processes_actors pair ps) a r c) (sym e) (goes_on pair (actors_of_process pair p.0) (processes_actors pair more) a b r c f h)
 
-pub process_found : (pair : Pair) (rest more : List Pid) (p : Pid) (a : Pass) (x : Choice) (b c : Pass) → rest ≡ p ∷ more → Goes pair (actors_of_process pair p.0) a (Some x) b → Goes pair (processes_actors pair rest) a (Some x) c
+pub process_found : (pair : Pair) (rest more : List Pid) (p : Pid) (a : ℕ) (x : Choice) (b c : ℕ) → rest ≡ p ∷ more → Goes pair (actors_of_process pair p.0) a (Some x) b → Goes pair (processes_actors pair rest) a (Some x) c
 process_found pair rest more p a x b c e f =
     subst (λ ps. Goes pair (processes_actors pair ps) a (Some x) c) (sym e) (goes_first pair (actors_of_process pair p.0) (processes_actors pair more) a x b c f)
 
-pub no_process : (pair : Pair) (rest : List Pid) (a : Pass) → length rest ≡ 0 → Goes pair (processes_actors pair rest) a None a
+pub no_process : (pair : Pair) (rest : List Pid) (a : ℕ) → length rest ≡ 0 → Goes pair (processes_actors pair rest) a None a
 no_process pair [] a h = goes_nowhere pair a
 no_process pair (p ∷ ps) a h = absurd (omega arith)
 

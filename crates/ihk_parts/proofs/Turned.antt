@@ -1,6 +1,5 @@
 -- Turns and the choices of a walk's definition.
 use Rattle.ihk_parts.specs.Turns.{chosen, generator, turn_after, word}
-use Rattle.ihk_parts.specs.declared.turn.Turn.{Turn}
 use Rattle.ihk_parts.specs.declared.turn.Turn.TheVariants.{Drawn, Round}
 use Rattle.run_model.specs.Walks.{Chosen, Walker, next_choice}
 use Rattle.std.proofs.Common.{Bool, None, Some, add-one, ap, cond, false, refl, sym, true, ℕ, ◌+◌, ◌≡◌}

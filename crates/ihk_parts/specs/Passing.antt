@@ -1,12 +1,14 @@
 -- Passing over the offers of actors in their order.
 use Rattle.hybrid_model.specs.Pairs.{Pair}
 use Rattle.ihk_parts.specs.declared.passing.Choice.{Choice}
-use Rattle.ihk_parts.specs.declared.passing.Pass.{Pass}
-use Rattle.run_model.specs.Walks.{Chosen, behind, chosen_by, is_same_actor}
+use Rattle.mck_word.specs.Lists.{count_from}
+use Rattle.mck_word.specs.Maps.{keys}
+use Rattle.mck_word.specs.declared.Pid.{Pid}
+use Rattle.run_model.specs.Walks.{Chosen, actors_of_process, chosen_by}
 use Rattle.run_model.specs.declared.actors.Actor.{Actor}
-use Rattle.std.specs.List.{filter_map, list_any}
-use Rattle.std.specs.Option.{option_to_list}
-use Rattle.std.specs.Prelude.{◌≡◌, ℕ, ◌+◌, cond, List, length, Option, Some, None, slice_get}
+use Rattle.run_model.specs.declared.actors.Actor.TheVariants.{Core, Worker, Script}
+use Rattle.std.specs.List.{filter_map}
+use Rattle.std.specs.Prelude.{◌≡◌, ℕ, ◌+◌, ◌-◌, ◌==◌, cond, List, [], ◌∷◌, ◌++◌, map, flat_map, length, Option, Some, None, slice_get}
 
 abbrev pub as_chosen : Choice → Chosen
 as_chosen c = record { actor = c.actor; event = c.event }
@@ -15,23 +17,32 @@ as_chosen c = record { actor = c.actor; event = c.event }
 abbrev pub offers_of : Pair → List Actor → List Chosen
 offers_of pair actors = filter_map (chosen_by pair) actors
 
--- the actors behind the one that is sought, or all where none is
-abbrev pub those_behind : Option Actor → List Actor → List Actor
-those_behind None actors = actors
-those_behind (Some a) actors = behind a actors
+-- Of the actors' offers, so many are passed over: the one behind these is found, or all are passed over and the rest of the number is left.
+abbrev pub Goes : Pair → List Actor → ℕ → Option Choice → ℕ → Type 0
+Goes pair actors skip (Some c) left = slice_get (offers_of pair actors) skip ≡ Some (as_chosen c)
+Goes pair actors skip None left = skip ≡ left + length (offers_of pair actors)
 
--- whether it is still sought behind these actors
-abbrev pub still_sought : Option Actor → List Actor → Option Actor
-still_sought None actors = None
-still_sought (Some a) actors = cond (list_any (is_same_actor a) actors) None (Some a)
+-- ---- the actors from a place on
 
--- One offer, if there is one, is passed over or found.
-abbrev pub Counts : Option Chosen → ℕ → Option Choice → ℕ → Type 0
-Counts offer skip (Some c) left = (offer ≡ Some (as_chosen c)) × (skip ≡ 0)
-Counts offer skip None left = skip ≡ left + length (option_to_list offer)
+abbrev pub cores_from : Pair → ℕ → List Actor
+cores_from pair first = map (λ c. Core c) (count_from first (pair.cores - first))
 
--- Of the actors behind the one that is sought, so many offers are passed over: the one behind these is found, or all are passed over
--- and the rest of the number is left.
-abbrev pub Goes : Pair → List Actor → Pass → Option Choice → Pass → Type 0
-Goes pair actors p (Some c) q = slice_get (offers_of pair (those_behind p.sought actors)) p.skip ≡ Some (as_chosen c)
-Goes pair actors p None q = (p.skip ≡ q.skip + length (offers_of pair (those_behind p.sought actors))) × (q.sought ≡ still_sought p.sought actors)
+abbrev pub workers_from : Pair → Pid → ℕ → List Actor
+workers_from pair p first = map (λ w. Worker p w) (count_from first (pair.workers - first))
+
+-- those of the processes with these numbers, and the script
+abbrev pub processes_and_script : Pair → List ℕ → List Actor
+processes_and_script pair numbers = flat_map (actors_of_process pair) numbers ++ Script ∷ []
+
+-- the numbers behind p, or None where it isn't among them
+abbrev pub numbers_behind : ℕ → List ℕ → Option (List ℕ)
+numbers_behind p [] = None
+numbers_behind p (q ∷ qs) = cond (p == q) (Some qs) (numbers_behind p qs)
+
+-- these actors of a process and all that come behind the process, or none where it isn't there
+abbrev pub with_those_behind : Pair → List Actor → Option (List ℕ) → List Actor
+with_those_behind pair own None = []
+with_those_behind pair own (Some numbers) = own ++ processes_and_script pair numbers
+
+abbrev pub on_from : Pair → List Actor → Pid → List Actor
+on_from pair own p = with_those_behind pair own (numbers_behind p.0 (keys pair.node.processes))

@@ -2,9 +2,10 @@
 //!
 //! Promises: `Walker` chooses as the definition of walks does (run_model, Walks): with order 0 the next actor in turn that has an
 //! offer, with another order the one that the generator's next word names among those that have one. A step looks at each actor
-//! at most twice and takes no memory. The definitions stand in specs/Turns.
+//! at most twice and takes no memory; with order 0 it begins behind the last that acted. The definitions stand in specs/Turns.
 #![tactic(auto)]
 
+mod behind;
 mod offers;
 mod passing;
 mod turn;

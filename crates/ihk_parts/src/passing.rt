@@ -1,11 +1,10 @@
 // Passing over the offers of the actors in their order.
-ghost use Rattle.ihk_parts.specs.Passing.{Counts, Goes, as_chosen};
-ghost use Rattle.mck_word.specs.Lists.{count_from};
-ghost use Rattle.run_model.specs.Walks.{actors, actors_of_process, all_workers, chosen_by, is_same_actor};
-ghost use Rattle.run_model.specs.declared.actors.Actor.TheVariants.{Core, Worker, Linux, Script};
+ghost use Rattle.ihk_parts.specs.Passing.{Goes, as_chosen, cores_from, processes_and_script, workers_from};
+ghost use Rattle.mck_word.specs.Maps.{keys};
+ghost use Rattle.run_model.specs.Walks.{actors, actors_of_process, all_workers, chosen_by};
+ghost use Rattle.run_model.specs.declared.actors.Actor.TheVariants.{Worker, Linux, Script};
 ghost use Rattle.std.specs.Option.{option_map};
 ghost use Rattle.std.specs.Prelude.{◌≡◌, ◌∷◌, ◌++◌, [], flat_map, map};
-ghost use Rattle.mck_word.specs.Maps.{keys};
 
 use crate::offers::Offers;
 use hybrid_model::Event;
@@ -19,26 +18,6 @@ pub struct Choice {
     pub event: Event,
 }
 
-/// The actor behind which offers count, where one is sought, and how many of them are still to be passed over.
-#[derive(Clone, Copy, Debug, PartialEq, Eq)]
-pub struct Pass {
-    pub sought: Option<Actor>,
-    pub skip: u32,
-}
-
-fn is_same(a: &Actor, b: &Actor) -> bool
-    ensures { result ≡ is_same_actor a.now b.now }
-{
-    match (a, b) {
-        (Actor::Core(c), Actor::Core(d)) => c == d,
-        (Actor::Kernel(p), Actor::Kernel(q)) => p.0 == q.0,
-        (Actor::Linux(p), Actor::Linux(q)) => p.0 == q.0,
-        (Actor::Worker(p, v), Actor::Worker(q, w)) => p.0 == q.0 && v == w,
-        (Actor::Script, Actor::Script) => true,
-        _ => false,
-    }
-}
-
 fn look<P: Offers>(machine: &P, actor: Actor) -> Option<Choice>
     ensures { option_map as_chosen result ≡ chosen_by (P.pair machine.now) actor }
 {
@@ -46,9 +25,9 @@ fn look<P: Offers>(machine: &P, actor: Actor) -> Option<Choice>
     Some(Choice { actor, event })
 }
 
-// The actor's offer, where none is to be passed over any more.
-fn count_one<P: Offers>(machine: &P, actor: Actor, skip: &mut u32) -> Option<Choice>
-    ensures { Counts (chosen_by (P.pair machine.now) actor) skip.old result skip.new }
+// The actor's offer, where none is to be passed over any more; `skip` is how many are.
+fn pass_one<P: Offers>(machine: &P, actor: Actor, skip: &mut u32) -> Option<Choice>
+    ensures { Goes (P.pair machine.now) (actor ∷ []) skip.old result skip.new }
 {
     let choice = look(machine, actor)?;
     if *skip == 0 {
@@ -59,27 +38,13 @@ fn count_one<P: Offers>(machine: &P, actor: Actor, skip: &mut u32) -> Option<Cho
     }
 }
 
-fn pass_one<P: Offers>(machine: &P, actor: Actor, pass: &mut Pass) -> Option<Choice>
-    ensures { Goes (P.pair machine.now) (actor ∷ []) pass.old result pass.new }
-{
-    match pass.sought {
-        Some(sought) => {
-            if is_same(&sought, &actor) {
-                pass.sought = None;
-            }
-            None
-        }
-        None => count_one(machine, actor, &mut pass.skip),
-    }
-}
-
-fn pass_cores<P: Offers>(machine: &P, pass: &mut Pass) -> Option<Choice>
-    ensures { Goes (P.pair machine.now) (map (λ c. Core c) (count_from 0 (P.pair machine.now).cores)) pass.old result pass.new }
+fn pass_cores_from<P: Offers>(machine: &P, first: u32, skip: &mut u32) -> Option<Choice>
+    ensures { Goes (P.pair machine.now) (cores_from (P.pair machine.now) first) skip.old result skip.new }
 {
     let cores = machine.cores();
-    let mut core = 0;
+    let mut core = first;
     while core < cores {
-        if let Some(choice) = pass_one(machine, Actor::Core(core), pass) {
+        if let Some(choice) = pass_one(machine, Actor::Core(core), skip) {
             return Some(choice);
         }
         core += 1;
@@ -87,13 +52,19 @@ fn pass_cores<P: Offers>(machine: &P, pass: &mut Pass) -> Option<Choice>
     None
 }
 
-fn pass_workers<P: Offers>(machine: &P, pid: Pid, pass: &mut Pass) -> Option<Choice>
-    ensures { Goes (P.pair machine.now) (map (λ w. Worker pid w) (all_workers (P.pair machine.now))) pass.old result pass.new }
+/// Passes over the offers of a process's workers from this one on.
+pub fn pass_workers_from<P: Offers>(
+    machine: &P,
+    pid: Pid,
+    first: u32,
+    skip: &mut u32,
+) -> Option<Choice>
+    ensures { Goes (P.pair machine.now) (workers_from (P.pair machine.now) pid first) skip.old result skip.new }
 {
     let workers = machine.workers();
-    let mut worker = 0;
+    let mut worker = first;
     while worker < workers {
-        if let Some(choice) = pass_one(machine, Actor::Worker(pid, worker), pass) {
+        if let Some(choice) = pass_one(machine, Actor::Worker(pid, worker), skip) {
             return Some(choice);
         }
         worker += 1;
@@ -101,30 +72,31 @@ fn pass_workers<P: Offers>(machine: &P, pid: Pid, pass: &mut Pass) -> Option<Cho
     None
 }
 
-fn pass_linux<P: Offers>(machine: &P, pid: Pid, pass: &mut Pass) -> Option<Choice>
-    ensures { Goes (P.pair machine.now) (Linux pid ∷ map (λ w. Worker pid w) (all_workers (P.pair machine.now))) pass.old result pass.new }
+/// Passes over the offers of a process's Linux side and of its workers.
+pub fn pass_linux<P: Offers>(machine: &P, pid: Pid, skip: &mut u32) -> Option<Choice>
+    ensures { Goes (P.pair machine.now) (Linux pid ∷ map (λ w. Worker pid w) (all_workers (P.pair machine.now))) skip.old result skip.new }
 {
-    if let Some(choice) = pass_one(machine, Actor::Linux(pid), pass) {
+    if let Some(choice) = pass_one(machine, Actor::Linux(pid), skip) {
         return Some(choice);
     }
-    pass_workers(machine, pid, pass)
+    pass_workers_from(machine, pid, 0, skip)
 }
 
-fn pass_process<P: Offers>(machine: &P, pid: Pid, pass: &mut Pass) -> Option<Choice>
-    ensures { Goes (P.pair machine.now) (actors_of_process (P.pair machine.now) pid.0) pass.old result pass.new }
+fn pass_process<P: Offers>(machine: &P, pid: Pid, skip: &mut u32) -> Option<Choice>
+    ensures { Goes (P.pair machine.now) (actors_of_process (P.pair machine.now) pid.0) skip.old result skip.new }
 {
-    if let Some(choice) = pass_one(machine, Actor::Kernel(pid), pass) {
+    if let Some(choice) = pass_one(machine, Actor::Kernel(pid), skip) {
         return Some(choice);
     }
-    pass_linux(machine, pid, pass)
+    pass_linux(machine, pid, skip)
 }
 
-fn pass_processes<P: Offers>(machine: &P, pids: &[Pid], pass: &mut Pass) -> Option<Choice>
-    ensures { Goes (P.pair machine.now) (flat_map (actors_of_process (P.pair machine.now)) (map (λ p. p.0) pids.now)) pass.old result pass.new }
+fn pass_processes<P: Offers>(machine: &P, pids: &[Pid], skip: &mut u32) -> Option<Choice>
+    ensures { Goes (P.pair machine.now) (flat_map (actors_of_process (P.pair machine.now)) (map (λ p. p.0) pids.now)) skip.old result skip.new }
 {
     let mut rest = pids;
     while let Some((pid, more)) = rest.split_first() {
-        if let Some(choice) = pass_process(machine, *pid, pass) {
+        if let Some(choice) = pass_process(machine, *pid, skip) {
             return Some(choice);
         }
         rest = more;
@@ -132,29 +104,41 @@ fn pass_processes<P: Offers>(machine: &P, pids: &[Pid], pass: &mut Pass) -> Opti
     None
 }
 
-fn pass_script<P: Offers>(machine: &P, pass: &mut Pass) -> Option<Choice>
-    ensures { Goes (P.pair machine.now) (Script ∷ []) pass.old result pass.new }
+fn pass_script<P: Offers>(machine: &P, skip: &mut u32) -> Option<Choice>
+    ensures { Goes (P.pair machine.now) (Script ∷ []) skip.old result skip.new }
 {
-    pass_one(machine, Actor::Script, pass)
+    pass_one(machine, Actor::Script, skip)
 }
 
-fn pass_cores_and_processes<P: Offers>(machine: &P, pass: &mut Pass) -> Option<Choice>
-    ensures { Goes (P.pair machine.now)
-        (map (λ c. Core c) (count_from 0 (P.pair machine.now).cores) ++ flat_map (actors_of_process (P.pair machine.now)) (keys (P.pair machine.now).node.processes))
-        pass.old result pass.new }
+/// Passes over the offers of these processes and of the script.
+pub fn pass_processes_and_script<P: Offers>(
+    machine: &P,
+    pids: &[Pid],
+    skip: &mut u32,
+) -> Option<Choice>
+    ensures { Goes (P.pair machine.now) (processes_and_script (P.pair machine.now) (map (λ p. p.0) pids.now)) skip.old result skip.new }
 {
-    if let Some(choice) = pass_cores(machine, pass) {
+    if let Some(choice) = pass_processes(machine, pids, skip) {
         return Some(choice);
     }
-    pass_processes(machine, machine.processes(), pass)
+    pass_script(machine, skip)
+}
+
+/// Passes over the offers of the cores from this one on and of all behind the cores.
+pub fn pass_from_core<P: Offers>(machine: &P, first: u32, skip: &mut u32) -> Option<Choice>
+    ensures { Goes (P.pair machine.now)
+        (cores_from (P.pair machine.now) first ++ processes_and_script (P.pair machine.now) (keys (P.pair machine.now).node.processes))
+        skip.old result skip.new }
+{
+    if let Some(choice) = pass_cores_from(machine, first, skip) {
+        return Some(choice);
+    }
+    pass_processes_and_script(machine, machine.processes(), skip)
 }
 
 /// Passes over the offers of all actors.
-pub fn pass_all<P: Offers>(machine: &P, pass: &mut Pass) -> Option<Choice>
-    ensures { Goes (P.pair machine.now) (actors (P.pair machine.now)) pass.old result pass.new }
+pub fn pass_all<P: Offers>(machine: &P, skip: &mut u32) -> Option<Choice>
+    ensures { Goes (P.pair machine.now) (actors (P.pair machine.now)) skip.old result skip.new }
 {
-    if let Some(choice) = pass_cores_and_processes(machine, pass) {
-        return Some(choice);
-    }
-    pass_script(machine, pass)
+    pass_from_core(machine, 0, skip)
 }

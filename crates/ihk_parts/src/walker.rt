@@ -3,15 +3,16 @@ ghost use Rattle.hybrid_model.specs.declared.events.Event.{Event};
 ghost use Rattle.ihk_parts.specs.Passing.{as_chosen, offers_of};
 ghost use Rattle.ihk_parts.specs.Turns.{chosen, event_of, first_turn, turn_after};
 ghost use Rattle.rand_pcg.specs.Pcg.{pcg32};
-ghost use Rattle.run_model.specs.Walks.{actors, behind, next_by_word, next_in_turn};
+ghost use Rattle.run_model.specs.Walks.{actors, next_by_word, next_in_turn};
 ghost use Rattle.std.specs.Option.{option_map};
 ghost use Rattle.std.specs.Prelude.{◌≡◌, ◌<◌, ℕ, MatchOption, Some, length, slice_get};
 ghost use Rattle.run_model.specs.Walks.{Chosen, moved, next_choice};
 ghost use Rattle.run_model.specs.Walks as walks;
 ghost use Rattle.ihk_parts.specs.Turns.{turn_at, words_of};
 
+use crate::behind::pass_behind;
 use crate::offers::Offers;
-use crate::passing::{Choice, Pass, pass_all};
+use crate::passing::{Choice, pass_all};
 use crate::turn::Turn;
 use hybrid_model::Event;
 use rand_core::SeedableRng;
@@ -48,11 +49,8 @@ pub fn turns_move_on()
 fn first<P: Offers>(machine: &P) -> Option<Choice>
     ensures { option_map as_chosen result ≡ slice_get (offers_of (P.pair machine.now) (actors (P.pair machine.now))) 0 }
 {
-    let mut pass = Pass {
-        sought: None,
-        skip: 0,
-    };
-    pass_all(machine, &mut pass)
+    let mut skip = 0;
+    pass_all(machine, &mut skip)
 }
 
 // The first offer behind the last that acted, else the first of all.
@@ -68,11 +66,8 @@ fn next_in_turn<P: Offers>(machine: &P, last: Option<Actor>) -> Option<Choice>
 fn next_behind<P: Offers>(machine: &P, last: Actor) -> Option<Choice>
     ensures { option_map as_chosen result ≡ next_in_turn (Some last) (P.pair machine.now) }
 {
-    let mut pass = Pass {
-        sought: Some(last),
-        skip: 0,
-    };
-    match pass_all(machine, &mut pass) {
+    let mut skip = 0;
+    match pass_behind(machine, last, &mut skip) {
         Some(choice) => Some(choice),
         None => first(machine),
     }
@@ -91,13 +86,10 @@ fn count_offers<P: Offers>(machine: &P) -> u32
     ensures { result ≡ length (offers_of (P.pair machine.now) (actors (P.pair machine.now))) }
 {
     let most = count_actors(machine);
-    let mut pass = Pass {
-        sought: None,
-        skip: most,
-    };
-    match pass_all(machine, &mut pass) {
+    let mut skip = most;
+    match pass_all(machine, &mut skip) {
         Some(_) => unreachable!(),
-        None => most - pass.skip,
+        None => most - skip,
     }
 }
 
@@ -106,11 +98,8 @@ fn offer_at<P: Offers>(machine: &P, place: u32) -> Choice
     requires { place < length (offers_of (P.pair machine.now) (actors (P.pair machine.now))) }
     ensures { slice_get (offers_of (P.pair machine.now) (actors (P.pair machine.now))) place ≡ Some (as_chosen result) }
 {
-    let mut pass = Pass {
-        sought: None,
-        skip: place,
-    };
-    match pass_all(machine, &mut pass) {
+    let mut skip = place;
+    match pass_all(machine, &mut skip) {
         Some(choice) => choice,
         None => unreachable!(),
     }

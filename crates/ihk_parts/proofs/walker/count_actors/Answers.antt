@@ -1,6 +1,6 @@
 use Rattle.ihk_parts.proofs.Passed.{length-actors}
 use Rattle.ihk_parts.proofs.walker.count_actors.Goals as goal
-use Rattle.std.proofs.Common.{length, sym, ◌*◌, ◌+◌}
+use Rattle.std.proofs.Common.{length, sym}
 
 pub returns : goal.returns
 returns g c =

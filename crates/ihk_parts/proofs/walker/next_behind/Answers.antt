@@ -10,5 +10,5 @@ returns-in-Some g c = sym (turn_behind (g.P.Offers.pair c.args.machine.now) c.ar
 pub returns-in-None : goal.returns-in-None
 returns-in-None g c =
     let pair = g.P.Offers.pair c.args.machine.now in
-    let none : length (offers_of pair (behind c.args.last (actors pair))) ≡ 0 = omega (arith, c.in-None.ensures.0) in
+    let none : length (offers_of pair (behind c.args.last (actors pair))) ≡ 0 = omega (arith, c.in-None.ensures) in
     c.first.ensures ∙ sym (turn_round pair c.args.last none)
