@@ -5,3 +5,10 @@ pub mod SameKeys
 pub mod LastKey
 pub mod Numbered
 pub mod Sides
+pub mod Lists
+pub mod Walked
+pub mod Noted
+pub mod Moves
+pub mod FromLists
+pub mod Relisted
+pub mod Standing

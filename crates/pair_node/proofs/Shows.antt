@@ -19,6 +19,10 @@ use Rattle.mck_word.specs.MapLaws.{at-none}
 use Rattle.mck_word.specs.Maps.{Map, at, each, each_row, entries, keys, no_rows, some_row}
 use Rattle.mck_word.specs.declared.Req.{Req}
 use Rattle.offer_laws.specs.Small.{Small, numbers-fit}
+use Rattle.hybrid_model.specs.declared.events.Event.{Event}
+use Rattle.pair_node.specs.Listed.{owners, touched_by}
+use Rattle.pair_node.specs.declared.members.Touched.{Touched}
+use Rattle.thread_laws.specs.Members.{process_at, process_in}
 use Rattle.pair_core.specs.Shown.{pair_of, shown_side}
 use Rattle.pair_core.specs.declared.parts.Parts.{Parts}
 use Rattle.pair_core.specs.declared.parts.Side.{Side}
@@ -27,7 +31,7 @@ use Rattle.std.proofs.lemmas.Bool.{cases_lt, true≢false}
 use Rattle.std.proofs.lemmas.Option.{slice_get-map}
 use Rattle.std.specs.FinMap as finmap
 use Rattle.std.specs.List.{list_all, list_any}
-use Rattle.std.specs.Prelude.{Bool, IfSome, List, None, Option, Some, [], find, is_some, length, map, nat_le, option_map, slice_get, unwrap_or, ℕ, ◌&&◌, ◌-◌, ◌<◌, ◌^◌, ◌||◌, ◌≡◌, ◌≤◌, ◌∷◌}
+use Rattle.std.specs.Prelude.{Bool, IfSome, List, None, Option, Some, [], is_some, length, map, option_map, slice_get, unwrap_or, ℕ, ◌&&◌, ◌-◌, ◌<◌, ◌^◌, ◌||◌, ◌≡◌, ◌≤◌, ◌∷◌}
 
 -- ---- a map whose values are seen in another form
 module _ {V W : Type 0} (f : V → W) where
@@ -54,9 +58,14 @@ module _ {V W : Type 0} (f : V → W) where
 
 -- ---- the parts
 module _ {T F : Type 0} (rows : T → Map Row) (files : F → Files) (x : Parts T F) where
-  pub threads-from : (from : ℕ) → key_from (pair_of rows files x).node.threads from ≡ key_from x.lwk.node.threads.threads.rows from
+  -- the process of each live thread
+  pub owners-are : (t : ℕ) → process_at (pair_of rows files x).node t ≡ owners x.lwk.node.threads t
   unfolding pair_of node_of
-  threads-from from = ap (find (nat_le from)) (keys-each shown_thread x.lwk.node.threads.threads.rows)
+  owners-are t = ap process_in (at-each shown_thread x.lwk.node.threads.threads.rows t) ∙ seen (at x.lwk.node.threads.threads.rows t)
+    where
+      seen : (o : Option (ThreadRow Does)) → process_in (option_map shown_thread o) ≡ option_map (λ (y : ThreadRow Does). y.pid.0) o
+      seen None = refl
+      seen (Some y) = refl
 
   pub all-ended : each_row (λ p (y : Process). has_ended y.life) (pair_of rows files x).node.processes ≡ list_all (λ (e : ℕ × ProcessRow). has_ended e.1.life) (entries x.lwk.node.processes.map)
   unfolding pair_of node_of
@@ -102,6 +111,15 @@ next-is rows files x n e = e (files x.files)
 pub made-is : {T F : Type 0} (rows : T → Map Row) (files : F → Files) (x : Parts T F) (p : ℕ) (b : Bool) → ((other : Files) → b ≡ has_process (node_of x.lwk.node other) p) → b ≡ has_process (pair_of rows files x).node p
 unfolding pair_of
 made-is rows files x p b e = e (files x.files)
+
+-- which threads an event may make or end
+pub touched-is : {T F : Type 0} (rows : T → Map Row) (files : F → Files) (x : Parts T F) (e : Event) (z : Touched) → ((other : Files) → z ≡ touched_by (node_of x.lwk.node other) e) → z ≡ touched_by (pair_of rows files x).node e
+unfolding pair_of
+touched-is rows files x e z h = h (files x.files)
+
+pub cores-are : {T F : Type 0} (rows : T → Map Row) (files : F → Files) (x : Parts T F) → (pair_of rows files x).cores ≡ x.lwk.cores
+unfolding pair_of
+cores-are rows files x = refl
 
 -- a request's number is small
 pub request-small : (pair : Pair) → Coherent pair → Small pair → (p from : ℕ) (o : Option Req) → option_map (λ (q : Req). q.0) o ≡ key_from (side_of pair p).book.rows from → IfSome o (λ (q : Req). q.0 < 2 ^ 64 - 1)

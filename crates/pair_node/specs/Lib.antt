@@ -1,3 +1,4 @@
-pub mod Summed
 pub mod Room
 pub mod Steps
+pub mod Summed
+pub mod Listed

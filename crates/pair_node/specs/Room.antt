@@ -11,12 +11,19 @@ use Rattle.pair_core.specs.KernelRoom.{HasKernelRoom}
 use Rattle.pair_core.specs.LinuxRoom.{HasLinuxRoom}
 use Rattle.pair_core.specs.Newborn.{HasTrapOrForkRoom}
 use Rattle.pair_core.specs.declared.parts.Parts.{Parts}
+use Rattle.pair_node.specs.Listed.{HasListRoom}
+use Rattle.pair_node.specs.declared.members.Members.{Members}
 use Rattle.std.specs.Prelude.{List, ℕ, ◌≤◌}
 
 -- where the event is a trap, which may be a fork, one number more can be noted
 abbrev pub HasPlace : Event → (spare : ℕ) → Type 0
 HasPlace (Trap t) spare = 1 ≤ spare
 HasPlace _ spare = Unit {0}
+
+-- and one thread more be listed
+abbrev pub HasListPlace : Event → Members → Type 0
+HasListPlace (Trap t) m = HasListRoom m
+HasListPlace _ m = Unit {0}
 
 module _ {T F : Type 0} (rows : T → Map Row) (has_room : T → List PageRange → Type 0) (room : F → Room) (files : F → Files) where
   -- in the lightweight kernel, where a trap may be a fork

@@ -1,13 +1,17 @@
 // What a run asks of the parts.
 ghost use Rattle.hybrid_model.specs.Journals.{runs_on};
+ghost use Rattle.hybrid_model.specs.Linux.{has_pin, holds};
 ghost use Rattle.hybrid_model.specs.Pairs.{side_of};
 ghost use Rattle.kernel_model.specs.Nodes.{Process as KernelProcess, ScriptLine as KernelLine, has_ended, is_living, ready_to_run};
 ghost use Rattle.key_rows.specs.Table.{key_from};
 ghost use Rattle.mck_word.specs.Maps.{at, each_row, some_row};
 ghost use Rattle.pair_core.specs.Shown.{pair_of};
 ghost use Rattle.pair_offers.specs.Seeking.{request_number, thread_number};
+ghost use Rattle.pair_offers.specs.Stances.{stance_of};
+ghost use Rattle.pair_offers.specs.declared.stance.Stance.TheVariants.{Holding, Other, Pinned};
+ghost use Rattle.proxy_worker.specs.Shown.{linux_of};
 ghost use Rattle.std.specs.List.{list_all, list_any};
-ghost use Rattle.std.specs.Prelude.{◌&&◌, ◌≡◌, ◌-◌, ◌<◌, ◌^◌, IfSome, option_map, slice_get};
+ghost use Rattle.std.specs.Prelude.{◌&&◌, ◌≡◌, ◌-◌, ◌<◌, ◌^◌, IfSome, cond, option_map, slice_get};
 
 use file_calls::store::FileStore;
 use kernel_model::{Does, Life};
@@ -16,6 +20,9 @@ use lwk_threads::Thread;
 use mck_word::{Pid, Req, Tid};
 use page_map::PageTable;
 use pair_core::Parts;
+use pair_offers::Stance;
+use proxy_worker::Proxy;
+use request_book::Book;
 
 /// The thread that acted last on the core.
 #[tactic(auto, unfolding(pair_core::specs::Shown::pair_of))]
@@ -24,16 +31,6 @@ pub fn last<T: PageTable + Drop, F: FileStore>(parts: &Parts<T, F>, core: u32) -
 {
     let t = parts.lwk.last.of(core)?;
     Some(Tid(t))
-}
-
-/// The lowest live thread from there on.
-pub fn next_thread<T: PageTable + Drop, F: FileStore>(parts: &Parts<T, F>, from: Tid) -> Option<Tid>
-    ensures value { option_map thread_number result ≡ key_from (pair_of T.rows F.files parts.now).node.threads from.0 }
-    ensures below { IfSome result (λ t. t.0 < 2 ^ 32 - 1) }
-{
-    // No thread is at or above the next number, which fits.
-    let _end = parts.lwk.node.next_number();
-    parts.lwk.node.threads.next(from)
 }
 
 /// The lowest request of the process from there on.
@@ -47,6 +44,28 @@ pub fn next_request<T: PageTable + Drop, F: FileStore>(
     match parts.sides.get(p.0 as u64) {
         Some(side) => side.channel.book.next(from),
         None => None,
+    }
+}
+
+fn stance_at(proxy: &Proxy, book: &Book, w: u32) -> Stance
+    ensures { result ≡ cond (has_pin (linux_of proxy.now) w) Pinned (cond (holds (linux_of proxy.now) book.now.requests w) Holding Other) }
+{
+    if proxy.has_pin(w) {
+        Stance::Pinned
+    } else if proxy.holds(w, book) {
+        Stance::Holding
+    } else {
+        Stance::Other
+    }
+}
+
+/// How the worker of the process stands.
+pub fn stance<T: PageTable + Drop, F: FileStore>(parts: &Parts<T, F>, p: Pid, w: u32) -> Stance
+    ensures { result ≡ stance_of (side_of (pair_of T.rows F.files parts.now) p.0) w }
+{
+    match parts.sides.get(p.0 as u64) {
+        Some(side) => stance_at(&side.proxy, &side.channel.book, w),
+        None => Stance::Other,
     }
 }
 

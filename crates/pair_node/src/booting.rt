@@ -8,6 +8,7 @@ ghost use Rattle.pair_core.specs.Booting.{BootLacks};
 ghost use Rattle.pair_core.specs.Shown.{pair_of};
 ghost use Rattle.std.specs.Prelude.{◌≡◌, IfOk, MatchResult, None, map};
 
+use crate::members::Members;
 use crate::pair::Pair;
 use job_files::JobFiles;
 use job_model::{Image, Job};
@@ -39,6 +40,12 @@ impl<T: PageTable + Drop, F: JobFiles> Pair<T, F> {
     {
         let parts: Parts<T, F> = Parts::boot(alloc, job, images)?;
         let pids = numbers(alloc, &parts.lwk.node)?;
-        Ok(Pair { alloc, parts, pids })
+        let members = Members::of_table(alloc, parts.lwk.cores, &parts.lwk.node.threads)?;
+        Ok(Pair {
+            alloc,
+            parts,
+            pids,
+            members,
+        })
     }
 }

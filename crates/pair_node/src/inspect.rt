@@ -7,7 +7,7 @@ use file_calls::store::FileStore;
 use hybrid_model::Event;
 use mck_word::{Pid, Req, Tid};
 use page_map::PageTable;
-use pair_offers::Inspect;
+use pair_offers::{Inspect, Stance};
 
 impl<T: PageTable + Drop, F: FileStore> Inspect for Pair<T, F> {
     ghost pair = { λ x. pair_of T.rows F.files x.parts };
@@ -36,12 +36,12 @@ impl<T: PageTable + Drop, F: FileStore> Inspect for Pair<T, F> {
         asked::last(&self.parts, core)
     }
 
-    fn next_thread(&self, from: Tid) -> Option<Tid> {
-        asked::next_thread(&self.parts, from)
+    fn next_on_core(&self, core: u32, from: Tid) -> Option<Tid> {
+        self.members.next_on_core(core, from)
     }
 
-    fn process_of_thread(&self, t: Tid) -> Pid {
-        self.parts.lwk.node.process_of_thread(t)
+    fn next_of_process(&self, p: Pid, from: Tid) -> Option<Tid> {
+        self.members.next_of_process(p, from)
     }
 
     fn left_of_limit(&self) -> u64 {
@@ -50,6 +50,10 @@ impl<T: PageTable + Drop, F: FileStore> Inspect for Pair<T, F> {
 
     fn next_request(&self, p: Pid, from: Req) -> Option<Req> {
         asked::next_request(&self.parts, p, from)
+    }
+
+    fn stance(&self, p: Pid, w: u32) -> Stance {
+        asked::stance(&self.parts, p, w)
     }
 
     fn unsent(&self, place: usize) -> Option<u32> {

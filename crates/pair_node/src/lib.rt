@@ -3,7 +3,8 @@
 //! Promises: a `Pair` is in a state that is coherent, lasts and is small (pair_core, Ready), and tells whether an event may happen in it
 //! (hybrid_model, Events), what a run asks of it (pair_offers, Inspect) and what a report says of it (run_summary, Summaries). Where room
 //! was made for an event, it happens: the state after it is the definition's, and takes no memory. The step of the one-kernel machine that
-//! an event stands for is told too (hybrid_model, Images).
+//! an event stands for is told too (hybrid_model, Images). Its live threads are listed by core and by process (specs/Listed), so that an
+//! actor's own threads are found without a look at others.
 #![tactic(auto)]
 
 mod asked;
@@ -11,6 +12,7 @@ mod booting;
 mod events;
 mod inspect;
 mod machine;
+mod members;
 mod pair;
 mod room;
 mod steps;

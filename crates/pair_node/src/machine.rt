@@ -3,7 +3,7 @@ ghost use Rattle.pair_core.specs.Booting.{BootLacks};
 ghost use Rattle.mcexec_run.specs.Booting.{BootFails};
 ghost use Rattle.hybrid_model.specs.Boot.{Shortage};
 ghost use Rattle.pair_core.specs.Shown.{pair_of};
-ghost use Rattle.pair_node.specs.Room.{HasPlace, HasRoom};
+ghost use Rattle.pair_node.specs.Room.{HasListPlace, HasPlace, HasRoom};
 ghost use Rattle.std.specs.Prelude.{Option, ◌-◌, vec_len};
 ghost use Rattle.std.specs.Vec.{vec_capacity};
 
@@ -62,7 +62,7 @@ fn boot_error(error: pair_core::BootError) -> BootError
 }
 
 impl<T: PageTable + Drop, F: JobFiles> Machine for Pair<T, F> {
-    ghost has_room = { λ x e. HasRoom T.rows T.has_room F.room F.can_write F.files e x.parts × HasPlace e (vec_capacity x.pids - vec_len x.pids) };
+    ghost has_room = { λ x e. HasRoom T.rows T.has_room F.room F.can_write F.files e x.parts × HasPlace e (vec_capacity x.pids - vec_len x.pids) × HasListPlace e x.members };
 
     fn boot(alloc: Global, job: &Job, images: &[Image]) -> Result<Self, BootError> {
         match Pair::boot(alloc, job, images) {

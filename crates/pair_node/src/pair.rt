@@ -5,29 +5,34 @@ ghost use Rattle.mcexec_run.specs.Auditing.{IsReached, executed};
 ghost use Rattle.pair_core.specs.Kept.{Kept};
 ghost use Rattle.pair_core.specs.Ready.{IsSound};
 ghost use Rattle.pair_core.specs.Shown.{pair_of};
-ghost use Rattle.pair_node.specs.Room.{HasPlace, HasRoom};
+ghost use Rattle.pair_node.specs.Listed.{IsListed};
+ghost use Rattle.pair_node.specs.Room.{HasListPlace, HasPlace, HasRoom};
+ghost use Rattle.thread_laws.specs.Members.{process_at};
 ghost use Rattle.kernel_model.specs.Nodes.{has_process};
 ghost use Rattle.std.specs.Prelude.{◌≡◌, ◌-◌, ◌<◌, ◌++◌, ◌∷◌, [], OnOk, cond, map, true, vec_len};
 ghost use Rattle.std.specs.Vec.{vec_capacity};
 
 use crate::events::happen;
-use crate::room::{make_place, make_room};
+use crate::members::{Members, touched_by};
+use crate::room::{make_list_room, make_place, make_room};
 use file_calls::store::FileStore;
 use hybrid_model::Event;
-use mck_word::{NoMemory, Pid};
+use mck_word::{NoMemory, Pid, Tid};
 use page_map::PageTable;
 use pair_core::Parts;
 use std::alloc::Global;
 
-/// The two kernels in a state that they reach, beside the numbers of their processes, rising.
+/// The two kernels in a state that they reach, beside the numbers of their processes, rising, and the lists of their threads.
 #[derive(Drop)]
 pub struct Pair<T: PageTable, F: FileStore> {
     pub alloc: Global,
     pub parts: Parts<T, F>,
     pub pids: Vec<Pid>,
+    pub members: Members,
     pub ghost sound: { ∥ IsSound (pair_of T.rows F.files parts) ∥₁ },
     pub ghost kept: { Kept parts },
     pub ghost numbered: { map (λ p. p.0) pids.items ≡ keys (pair_of T.rows F.files parts).node.processes },
+    pub ghost listed: { IsListed (process_at (pair_of T.rows F.files parts).node) (pair_of T.rows F.files parts).cores members },
 }
 
 /// Notes the process of that number among the numbers, where it was made.
@@ -60,8 +65,10 @@ impl<T: PageTable + Drop, F: FileStore> Pair<T, F> {
         ensures state { pair_of T.rows F.files self.new.parts ≡ pair_of T.rows F.files self.old.parts }
         ensures room { OnOk result (HasRoom T.rows T.has_room F.room F.can_write F.files event.now self.new.parts) }
         ensures place { OnOk result (HasPlace event.now (vec_capacity self.new.pids - vec_len self.new.pids)) }
+        ensures lists { OnOk result (HasListPlace event.now self.new.members) }
     {
         make_place(&mut self.pids, *event)?;
+        make_list_room(&mut self.members, *event)?;
         make_room(&mut self.parts, self.alloc, *event)
     }
 
@@ -70,12 +77,17 @@ impl<T: PageTable + Drop, F: FileStore> Pair<T, F> {
         requires may { may (pair_of T.rows F.files self.old.parts) event.now ≡ true }
         requires room { HasRoom T.rows T.has_room F.room F.can_write F.files event.now self.old.parts }
         requires place { HasPlace event.now (vec_capacity self.old.pids - vec_len self.old.pids) }
+        requires lists { HasListPlace event.now self.old.members }
         ensures after { pair_of T.rows F.files self.new.parts ≡ after (pair_of T.rows F.files self.old.parts) event.now }
         ensures executed { result ≡ executed (pair_of T.rows F.files self.old.parts) event.now }
     {
-        let next = Pid(self.parts.lwk.node.next_number());
+        let next = self.parts.lwk.node.next_number();
+        let cores = self.parts.lwk.cores;
+        let touched = touched_by(&self.parts.lwk.node, *event);
         let executed = happen(&mut self.parts, self.alloc, *event);
-        note_made(&mut self.pids, &self.parts, next);
+        note_made(&mut self.pids, &self.parts, Pid(next));
+        self.members
+            .note(cores, touched, Tid(next), &self.parts.lwk.node.threads);
         executed
     }
 

@@ -3,10 +3,11 @@ ghost use Rattle.pair_core.specs.Kept.{Kept};
 ghost use Rattle.pair_core.specs.LinuxRoom.{HasLinuxRoom};
 ghost use Rattle.pair_core.specs.Ready.{IsSound};
 ghost use Rattle.pair_core.specs.Shown.{pair_of};
-ghost use Rattle.pair_node.specs.Room.{HasLwkRoom, HasPlace};
+ghost use Rattle.pair_node.specs.Room.{HasListPlace, HasLwkRoom, HasPlace};
 ghost use Rattle.std.specs.Prelude.{◌≡◌, ◌-◌, OnOk, vec_len};
 ghost use Rattle.std.specs.Vec.{vec_capacity};
 
+use crate::members::Members;
 use file_calls::store::FileStore;
 use hybrid_model::Event;
 use mck_word::{NoMemory, Pid};
@@ -43,6 +44,18 @@ pub fn make_place(pids: &mut Vec<Pid>, event: Event) -> Result<(), NoMemory>
 {
     if let Event::Trap(_) = event {
         pids.reserve(1)?;
+    }
+    Ok(())
+}
+
+/// Makes room for one thread more in the lists, where the event is a trap, which may be a clone.
+pub fn make_list_room(members: &mut Members, event: Event) -> Result<(), NoMemory>
+    ensures by_core { members.new.by_core.map ≡ members.old.by_core.map }
+    ensures by_process { members.new.by_process.map ≡ members.old.by_process.map }
+    ensures room { OnOk result (HasListPlace event members.new) }
+{
+    if let Event::Trap(_) = event {
+        members.reserve()?;
     }
     Ok(())
 }

@@ -2,14 +2,15 @@
 use Rattle.hybrid_laws.specs.Tests.{both}
 use Rattle.hybrid_model.specs.Tallies.{Each}
 use Rattle.mck_word.specs.Maps.{Map, entries, keys}
-use Rattle.offer_laws.specs.Each.{each-then, none-found, none-passes}
+use Rattle.offer_laws.specs.Each.{each-kept, each-then, none-found, none-passes}
+use Rattle.pair_offers.specs.Seeking.{next_such}
 use Rattle.run_model.specs.Walks.{is_above_last}
 use Rattle.std.proofs.Common.{ap, arith, refl, subst, sym, ◌∙◌}
 use Rattle.std.proofs.lemmas.Bool.Decides.{nat_tests}
 use Rattle.std.specs.FinMap as finmap
 use Rattle.std.specs.FinMap.Entries as fin
 use Rattle.std.specs.Ordering.{is_lt, nat_cmp}
-use Rattle.std.specs.Prelude.{Bool, IfSome, List, None, Option, Some, T, [], cond, false, filter, find, map, min, nat_le, nat_lt, option_map, true, ℕ, ◌+◌, ◌<◌, ◌≡◌, ◌≤◌, ◌∷◌}
+use Rattle.std.specs.Prelude.{Bool, IfSome, List, None, Option, Some, T, [], cond, false, filter, find, map, min, nat_le, nat_lt, option_map, true, ℕ, ◌&&◌, ◌+◌, ◌<◌, ◌≡◌, ◌≤◌, ◌∷◌}
 
 -- ---- keys rise
 abbrev pub Rises : List ℕ → Type 0
@@ -38,9 +39,55 @@ module _ {V : Type 0} where
       go true e t = e
       go false e t = absurd t
 
+-- ---- the numbers that are taken
+module _ (g : ℕ → Bool) where
+  pub taken-rise : (ks : List ℕ) → Rises ks → Rises (filter g ks)
+  taken-rise [] h = tt
+  taken-rise (k ∷ ks) h = go (g k) (taken-rise ks h.1)
+    where
+      go : (b : Bool) → Rises (filter g ks) → Rises (cond b (k ∷ filter g ks) (filter g ks))
+      go true r = (each-kept (λ j. k < j) g ks h.0, r)
+      go false r = r
+
+  pub next-taken : (from : ℕ) (ks : List ℕ) → next_such g from ks ≡ find (nat_le from) (filter g ks)
+  next-taken from [] = refl
+  next-taken from (k ∷ ks) = go (nat_le from k) (g k) refl (next-taken from ks)
+    where
+      go : (a b : Bool) → nat_le from k ≡ a → next_such g from ks ≡ find (nat_le from) (filter g ks)
+          → cond (a && b) (Some k) (next_such g from ks) ≡ find (nat_le from) (cond b (k ∷ filter g ks) (filter g ks))
+      go true true e r = sym (ap (λ c. cond c (Some k) (find (nat_le from) (filter g ks))) e)
+      go false true e r = r ∙ sym (ap (λ c. cond c (Some k) (find (nat_le from) (filter g ks))) e)
+      go true false e r = r
+      go false false e r = r
+
+  pub found-taken : (test : ℕ → Bool) (k : ℕ) (ks : List ℕ) → find test (filter g ks) ≡ Some k → g k ≡ true
+  found-taken test k [] e = cc
+  found-taken test k (x ∷ ks) e = go (g x) refl e (found-taken test k ks)
+    where
+      first : (a : Bool) → g x ≡ true → cond a (Some x) (find test (filter g ks)) ≡ Some k → (find test (filter g ks) ≡ Some k → g k ≡ true) → g k ≡ true
+      first true h d again = let same : x ≡ k = cc in ap g (sym same) ∙ h
+      first false h d again = again d
+
+      go : (b : Bool) → g x ≡ b → find test (cond b (x ∷ filter g ks) (filter g ks)) ≡ Some k → (find test (filter g ks) ≡ Some k → g k ≡ true) → g k ≡ true
+      go true h d again = first (test x) h d again
+      go false h d again = again d
+
+  pub taken-first : (test : ℕ → Bool) (ks : List ℕ) → filter g (filter test ks) ≡ filter test (filter g ks)
+  taken-first test [] = refl
+  taken-first test (k ∷ ks) = go (test k) (g k) refl refl (taken-first test ks)
+    where
+      go : (a b : Bool) → test k ≡ a → g k ≡ b → filter g (filter test ks) ≡ filter test (filter g ks)
+          → filter g (cond a (k ∷ filter test ks) (filter test ks)) ≡ filter test (cond b (k ∷ filter g ks) (filter g ks))
+      go true true e h r =
+          ap (λ c. cond c (k ∷ filter g (filter test ks)) (filter g (filter test ks))) h
+          ∙ (ap (λ xs. k ∷ xs) r ∙ sym (ap (λ c. cond c (k ∷ filter test (filter g ks)) (filter test (filter g ks))) e))
+      go true false e h r = ap (λ c. cond c (k ∷ filter g (filter test ks)) (filter g (filter test ks))) h ∙ r
+      go false true e h r = r ∙ sym (ap (λ c. cond c (k ∷ filter test (filter g ks)) (filter test (filter g ks))) e)
+      go false false e h r = r
+
 -- ---- lists of which all or none pass
 module _ (test : ℕ → Bool) where
-  kept-all : (ks : List ℕ) → Each (λ k. test k ≡ true) ks → filter test ks ≡ ks
+  pub kept-all : (ks : List ℕ) → Each (λ k. test k ≡ true) ks → filter test ks ≡ ks
   kept-all [] h = refl
   kept-all (k ∷ ks) h = ap (λ b. cond b (k ∷ filter test ks) (filter test ks)) h.0 ∙ ap (λ xs. k ∷ xs) (kept-all ks h.1)
 
@@ -109,6 +156,12 @@ found-same p q (k ∷ ks) h = ap (λ b. cond b (Some k) (find p ks)) (h k) ∙ a
 
 found-fewer : (p q : ℕ → Bool) (ks : List ℕ) → ((k : ℕ) → p k ≡ false → q k ≡ false) → find p ks ≡ None → find q ks ≡ None
 found-fewer p q ks h e = none-found q ks (each-then (λ k. p k ≡ false) (λ k. q k ≡ false) ks h (none-passes p ks e))
+
+from-none : (k : ℕ) → nat_le 0 k ≡ true
+from-none k = grind (arith, nat_tests)
+
+pub after-none : (ks : List ℕ) → find (nat_le 0) ks ≡ find (is_above_last None) ks
+after-none ks = found-same (nat_le 0) (is_above_last None) ks from-none
 
 next-same : (last k : ℕ) → nat_le (last + 1) k ≡ nat_lt last k
 next-same last k = grind (arith, nat_tests)

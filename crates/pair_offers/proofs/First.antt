@@ -1,17 +1,13 @@
 -- The first for which a function gives something, number by number.
-use Rattle.hybrid_model.specs.Events.{may}
 use Rattle.hybrid_model.specs.Pairs.{Pair}
 use Rattle.hybrid_model.specs.declared.events.Event.{Event}
-use Rattle.hybrid_model.specs.declared.events.Event.TheVariants.{Deliver, Trap}
 use Rattle.kernel_model.specs.Nodes.{ScriptLine}
-use Rattle.mck_word.specs.Identifiers.{tid}
 use Rattle.mck_word.specs.Lists.{count_from}
-use Rattle.pair_offers.proofs.Above.{Rises, next-above, none-above}
+use Rattle.pair_offers.proofs.Above.{Rises, next-above, none-above, taken-first}
 use Rattle.pair_offers.specs.Seeking.{first_by}
-use Rattle.run_model.specs.Walks.{core_event, first_event, is_above_last, run_of}
+use Rattle.run_model.specs.Walks.{core_event, first_event, is_above_last}
 use Rattle.std.proofs.Common.{ap, arith, refl, sym, ◌∙◌}
-use Rattle.std.proofs.lemmas.Bool.Decides.{nat_tests}
-use Rattle.std.specs.Prelude.{◌==◌, ◌%◌, Bool, List, None, Option, Some, [], cond, drop, filter, find, length, map, option_map, slice_get, suc, true, false, zero, ℕ, ◌++◌, ◌+◌, ◌-◌, ◌<◌, ◌≡◌, ◌≤◌, ◌∷◌}
+use Rattle.std.specs.Prelude.{Bool, List, None, Option, Some, [], cond, drop, filter, find, length, map, option_map, slice_get, suc, true, false, zero, ℕ, ◌++◌, ◌+◌, ◌-◌, ◌<◌, ◌≡◌, ◌≤◌, ◌∷◌}
 
 -- ---- one number after another
 module _ {A : Type 0} (f : ℕ → Option A) where
@@ -30,6 +26,19 @@ module _ {A : Type 0} (f : ℕ → Option A) where
 
   pub above-none : (last : Option ℕ) (ks : List ℕ) → find (is_above_last last) ks ≡ None → first_by f (filter (is_above_last last) ks) ≡ None
   above-none last ks e = ap (first_by f) (none-above last ks e)
+
+  -- the first of all is the first of those that are taken, where the others give nothing
+  module _ (taken : ℕ → Bool) (others : (n : ℕ) → taken n ≡ false → f n ≡ None) where
+    pub first-taken : (ns : List ℕ) → first_by f ns ≡ first_by f (filter taken ns)
+    first-taken [] = refl
+    first-taken (n ∷ ns) = go (taken n) refl (first-taken ns)
+      where
+        go : (b : Bool) → taken n ≡ b → first_by f ns ≡ first_by f (filter taken ns) → first_by f (n ∷ ns) ≡ first_by f (cond b (n ∷ filter taken ns) (filter taken ns))
+        go true e r = ap (λ (rest : Option A). elim (f n) as (λ _. Option A) [ None ↦ rest | Some x ↦ Some x ]) r
+        go false e r = first-not n ns (others n e) ∙ r
+
+    pub above-taken : (last : Option ℕ) (ns : List ℕ) → first_by f (filter (is_above_last last) ns) ≡ first_by f (filter (is_above_last last) (filter taken ns))
+    above-taken last ns = first-taken (filter (is_above_last last) ns) ∙ ap (first_by f) (taken-first taken (is_above_last last) ns)
 
 -- fewer are left above the one that was found
 pub fewer-above : (last : Option ℕ) (k : ℕ) (ks : List ℕ) → Rises ks → find (is_above_last last) ks ≡ Some k → length (filter (is_above_last (Some k)) ks) < length (filter (is_above_last last) ks)
@@ -129,18 +138,3 @@ module _ {E : Type 0} (test : E → Bool) (f : ℕ → E) where
   index-none [] (suc i) e = refl
   index-none (l ∷ ls) zero e = cc
   index-none (l ∷ ls) (suc i) e = index-none ls i e
-
--- ---- the events of a core
-if-same : {A : Type 0} (a b : ℕ) (x y : A) → a ≡ b → cond (a == b) x y ≡ x
-if-same a b x y e = let t : (a == b) ≡ true = grind (arith, nat_tests, e) in ap (λ s. cond s x y) t
-
-module _ (pair : Pair) (core t : ℕ) (own : t % pair.cores ≡ core) where
-  pub core-first : (e : Event) → find (may pair) (Trap (tid t) ∷ Deliver (tid t) ∷ []) ≡ Some e → core_event pair core t ≡ Some e
-  core-first e h =
-      if-same (t % pair.cores) core (find (may pair) (Trap (tid t) ∷ Deliver (tid t) ∷ run_of pair core t ∷ [])) None own
-      ∙ found-first (may pair) (Trap (tid t) ∷ Deliver (tid t) ∷ []) (run_of pair core t ∷ []) e h
-
-  pub core-behind : find (may pair) (Trap (tid t) ∷ Deliver (tid t) ∷ []) ≡ None → core_event pair core t ≡ find (may pair) (run_of pair core t ∷ [])
-  core-behind h =
-      if-same (t % pair.cores) core (find (may pair) (Trap (tid t) ∷ Deliver (tid t) ∷ run_of pair core t ∷ [])) None own
-      ∙ found-behind (may pair) (Trap (tid t) ∷ Deliver (tid t) ∷ []) (run_of pair core t ∷ []) h

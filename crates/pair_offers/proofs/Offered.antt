@@ -8,8 +8,9 @@ use Rattle.mck_word.specs.Lists.{count_from}
 use Rattle.mck_word.specs.Maps.{at, keys}
 use Rattle.mck_word.specs.declared.Pid.{Pid}
 use Rattle.pair_offers.proofs.Above.{all-above}
+use Rattle.pair_offers.proofs.Between.{none-above-first}
 use Rattle.pair_offers.proofs.First.{event-by, find-kept, found-behind, found-first}
-use Rattle.pair_offers.specs.Seeking.{event_of, first_by, is_thread_of, sought}
+use Rattle.pair_offers.specs.Seeking.{event_of, first_by, is_thread_of, is_up_to, sought}
 use Rattle.pair_offers.specs.declared.seeking.Numbered.{Numbered}
 use Rattle.pair_offers.specs.declared.seeking.Wanted.TheVariants.{ToBegin, ToInterrupt, ToRun, ToWait}
 use Rattle.run_model.specs.Walks.{core_event, core_offer, first_event, is_above_last, kernel_offer, linux_offer, thread_numbers}
@@ -26,11 +27,23 @@ module _ (pair : Pair) (core : ℕ) (last : Option ℕ) (own : last ≡ at pair.
   pub core-some : (e : Event) → first_by (sought pair (ToRun core)) (filter (is_above_last last) (keys pair.node.threads)) ≡ Some e → core_offer pair core ≡ Some e
   core-some e h = ap (λ (o : Option Event). elim o as (λ _. Option Event) [ None ↦ first_event pair core (keys pair.node.threads) | Some d ↦ Some d ]) (above-last ∙ h)
 
-  pub core-none : first_by (sought pair (ToRun core)) (filter (is_above_last last) (keys pair.node.threads)) ≡ None
-      → core_offer pair core ≡ first_by (sought pair (ToRun core)) (filter (is_above_last None) (keys pair.node.threads))
-  core-none h =
-      ap (λ (o : Option Event). elim o as (λ _. Option Event) [ None ↦ first_event pair core (keys pair.node.threads) | Some d ↦ Some d ]) (above-last ∙ h)
-      ∙ (event-by pair core (keys pair.node.threads) ∙ ap (λ (ks : List ℕ). first_by (core_event pair core) ks) (sym (all-above (keys pair.node.threads))))
+  module _ (none_above : first_by (sought pair (ToRun core)) (filter (is_above_last last) (keys pair.node.threads)) ≡ None) where
+    of-all : core_offer pair core ≡ first_by (sought pair (ToRun core)) (keys pair.node.threads)
+    of-all =
+        ap (λ (o : Option Event). elim o as (λ _. Option Event) [ None ↦ first_event pair core (keys pair.node.threads) | Some d ↦ Some d ]) (above-last ∙ none_above)
+        ∙ event-by pair core (keys pair.node.threads)
+
+    -- without a last thread all of them stand above
+    pub core-none : last ≡ None → core_offer pair core ≡ None
+    core-none e =
+        of-all
+        ∙ (ap (λ (ks : List ℕ). first_by (sought pair (ToRun core)) ks) (sym (all-above (keys pair.node.threads)))
+        ∙ (ap (λ (o : Option ℕ). first_by (sought pair (ToRun core)) (filter (is_above_last o) (keys pair.node.threads))) (sym e) ∙ none_above))
+
+    pub core-up-to : (end : ℕ) → last ≡ Some end → core_offer pair core ≡ first_by (sought pair (ToRun core)) (filter (is_up_to (Some end)) (keys pair.node.threads))
+    core-up-to end e =
+        let none = ap (λ (o : Option ℕ). first_by (sought pair (ToRun core)) (filter (is_above_last o) (keys pair.node.threads))) (sym e) ∙ none_above in
+        of-all ∙ none-above-first (sought pair (ToRun core)) end (keys pair.node.threads) none
 
 -- ---- events with numbers, where the count is the state's
 pub counted : (pair : Pair) (what : Numbered) (n m : ℕ) (r : Option Event) → n ≡ m → r ≡ find (may pair) (map (event_of what) (count_from 0 n)) → find (may pair) (map (event_of what) (count_from 0 m)) ≡ r

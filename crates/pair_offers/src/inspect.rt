@@ -2,12 +2,14 @@
 ghost use Rattle.hybrid_model.specs.Events.{may};
 ghost use Rattle.hybrid_model.specs.Journals.{runs_on};
 ghost use Rattle.hybrid_model.specs.Pairs.{Pair, side_of};
-ghost use Rattle.kernel_model.specs.Nodes.{Process, ScriptLine, has_ended, instructions_in_all, thread_of};
+ghost use Rattle.kernel_model.specs.Nodes.{Process, ScriptLine, has_ended, instructions_in_all};
 ghost use Rattle.key_rows.specs.Table.{key_from};
 ghost use Rattle.mck_word.specs.Maps.{at, each_row, keys, some_row};
-ghost use Rattle.pair_offers.specs.Seeking.{request_number, thread_number};
+ghost use Rattle.pair_offers.specs.Seeking.{is_on_core, is_thread_of, next_such, request_number, thread_number};
+ghost use Rattle.pair_offers.specs.Stances.{stance_of};
 ghost use Rattle.std.specs.Prelude.{◌≡◌, ◌≤◌, ◌<◌, ◌-◌, ◌^◌, IfSome, length, map, option_map, slice_get};
 
+use crate::stance::Stance;
 use hybrid_model::Event;
 use mck_word::{Pid, Req, Tid};
 
@@ -45,14 +47,15 @@ pub trait Inspect {
     fn last(&self, core: u32) -> Option<Tid>
         ensures { option_map thread_number result ≡ at (pair self.now).last core };
 
-    /// The lowest live thread from there on: None exactly where there is none.
-    fn next_thread(&self, from: Tid) -> Option<Tid>
-        ensures value { option_map thread_number result ≡ key_from (pair self.now).node.threads from.0 }
+    /// The lowest live thread of the core from there on: None exactly where there is none.
+    fn next_on_core(&self, core: u32, from: Tid) -> Option<Tid>
+        ensures value { option_map thread_number result ≡ next_such (is_on_core (pair self.now) core) from.0 (keys (pair self.now).node.threads) }
         ensures below { IfSome result (λ t. t.0 < 2 ^ 32 - 1) };
 
-    /// The process of the thread: 0 where no thread has the number.
-    fn process_of_thread(&self, t: Tid) -> Pid
-        ensures { result.0 ≡ (thread_of (pair self.now).node t.0).process };
+    /// The lowest live thread of the process from there on: None exactly where there is none.
+    fn next_of_process(&self, p: Pid, from: Tid) -> Option<Tid>
+        ensures value { option_map thread_number result ≡ next_such (is_thread_of (pair self.now) p.0) from.0 (keys (pair self.now).node.threads) }
+        ensures below { IfSome result (λ t. t.0 < 2 ^ 32 - 1) };
 
     /// How many instructions may still be executed in all.
     fn left_of_limit(&self) -> u64
@@ -62,6 +65,10 @@ pub trait Inspect {
     fn next_request(&self, p: Pid, from: Req) -> Option<Req>
         ensures value { option_map request_number result ≡ key_from (side_of (pair self.now) p.0).book.rows from.0 }
         ensures below { IfSome result (λ q. q.0 < 2 ^ 64 - 1) };
+
+    /// How the worker of the process stands.
+    fn stance(&self, p: Pid, w: u32) -> Stance
+        ensures { result ≡ stance_of (side_of (pair self.now) p.0) w };
 
     /// The index of the unsent line of the script at that place, from 0: None exactly past the last.
     fn unsent(&self, place: usize) -> Option<u32>

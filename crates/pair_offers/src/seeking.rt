@@ -6,9 +6,10 @@ ghost use Rattle.kernel_model.specs.Nodes.{ScriptLine};
 ghost use Rattle.mck_word.specs.Identifiers.{req};
 ghost use Rattle.mck_word.specs.Lists.{count_from};
 ghost use Rattle.mck_word.specs.Maps.{keys};
-ghost use Rattle.pair_offers.specs.Seeking.{event_of, first_by, is_thread_of, request_number, sought, thread_number};
-ghost use Rattle.run_model.specs.Walks.{core_event, first_that_may, is_above_last, run_of};
-ghost use Rattle.std.specs.Prelude.{◌≡◌, ◌∷◌, [], None, cond, filter, find, map, option_map};
+ghost use Rattle.pair_offers.specs.Seeking.{asked, event_of, first_by, is_asked, is_up_to, next_such, request_number, sought, thread_number, wanted_events};
+ghost use Rattle.pair_offers.specs.declared.seeking.Wanted.TheVariants.{ToRun};
+ghost use Rattle.run_model.specs.Walks.{first_that_may, is_above_last, run_of};
+ghost use Rattle.std.specs.Prelude.{◌≡◌, ◌∷◌, ◌<◌, ◌-◌, ◌^◌, [], IfSome, Some, filter, find, map, option_map};
 
 use crate::inspect::Inspect;
 use hybrid_model::Event;
@@ -62,61 +63,105 @@ fn run_on<A: Inspect>(state: &A, core: u32, t: Tid) -> Event
     Event::Run(core, t, most as u32)
 }
 
+// The first of the events of a thread that goes on on the core.
 fn event_on_core<A: Inspect>(state: &A, core: u32, t: Tid) -> Option<Event>
-    ensures { result ≡ core_event (A.pair state.now) core t.0 }
+    ensures { result ≡ first_that_may (A.pair state.now) (wanted_events (A.pair state.now) (ToRun core) t.0) }
 {
-    if t.0 % state.cores() != core {
-        return None;
-    }
     if let Some(event) = first_of(state, &[Event::Trap(t), Event::Deliver(t)]) {
         return Some(event);
     }
     if_it_may(state, run_on(state, core, t))
 }
 
-fn event_in_process<A: Inspect>(state: &A, p: Pid, t: Tid, event: Event) -> Option<Event>
-    ensures { result ≡ cond (is_thread_of (A.pair state.now) p.0 t.0) (first_that_may (A.pair state.now) (event ∷ [])) None }
-{
-    if state.process_of_thread(t).0 == p.0 {
-        if_it_may(state, event)
-    } else {
-        None
-    }
-}
-
 fn ask_thread<A: Inspect>(state: &A, wanted: Wanted, t: Tid) -> Option<Event>
-    ensures { result ≡ sought (A.pair state.now) wanted t.0 }
+    ensures { result ≡ first_that_may (A.pair state.now) (wanted_events (A.pair state.now) wanted t.0) }
 {
     match wanted {
         Wanted::ToRun(core) => event_on_core(state, core, t),
-        Wanted::ToBegin(p) => event_in_process(state, p, t, Event::BeginVm(t)),
-        Wanted::ToInterrupt(p) => event_in_process(state, p, t, Event::Interrupt(t)),
-        Wanted::ToWait(p) => event_in_process(state, p, t, Event::Wait(t)),
+        Wanted::ToBegin(_) => if_it_may(state, Event::BeginVm(t)),
+        Wanted::ToInterrupt(_) => if_it_may(state, Event::Interrupt(t)),
+        Wanted::ToWait(_) => if_it_may(state, Event::Wait(t)),
     }
 }
 
-// The lowest thread above that one, or of all.
-fn thread_above<A: Inspect>(state: &A, last: Option<Tid>) -> Option<Tid>
-    ensures { option_map thread_number result ≡ find (is_above_last (option_map thread_number last)) (keys (A.pair state.now).node.threads) }
+// The lowest from there on of the threads that are asked.
+fn next_asked<A: Inspect>(state: &A, wanted: Wanted, from: Tid) -> Option<Tid>
+    ensures value { option_map thread_number result ≡ next_such (is_asked (A.pair state.now) wanted) from.0 (keys (A.pair state.now).node.threads) }
+    ensures below { IfSome result (λ t. t.0 < 2 ^ 32 - 1) }
+{
+    match wanted {
+        Wanted::ToRun(core) => state.next_on_core(core, from),
+        Wanted::ToBegin(p) | Wanted::ToInterrupt(p) | Wanted::ToWait(p) => {
+            state.next_of_process(p, from)
+        }
+    }
+}
+
+// The lowest above that one, or of all, of the threads that are asked.
+fn thread_above<A: Inspect>(state: &A, wanted: Wanted, last: Option<Tid>) -> Option<Tid>
+    ensures { option_map thread_number result ≡ find (is_above_last (option_map thread_number last)) (asked (A.pair state.now) wanted) }
 {
     match last {
-        Some(t) => state.next_thread(Tid(t.0.saturating_add(1))),
-        None => state.next_thread(Tid(0)),
+        Some(t) => next_asked(state, wanted, Tid(t.0.saturating_add(1))),
+        None => next_asked(state, wanted, Tid(0)),
     }
 }
 
-/// What is wanted, of the lowest thread above that one that has it.
-pub fn first_above<A: Inspect>(state: &A, wanted: Wanted, last: Option<Tid>) -> Option<Event>
-    ensures { result ≡ first_by (sought (A.pair state.now) wanted) (filter (is_above_last (option_map thread_number last)) (keys (A.pair state.now).node.threads)) }
+fn is_up_to(end: Option<Tid>, t: Tid) -> bool
+    ensures { result ≡ is_up_to (option_map thread_number end) t.0 }
+{
+    match end {
+        Some(end) => t.0 <= end.0,
+        None => true,
+    }
+}
+
+// The lowest above `last` of the threads that are asked, where it is up to `end`.
+fn thread_between<A: Inspect>(
+    state: &A,
+    wanted: Wanted,
+    last: Option<Tid>,
+    end: Option<Tid>,
+) -> Option<Tid>
+    ensures { option_map thread_number result ≡ find (is_above_last (option_map thread_number last)) (filter (is_up_to (option_map thread_number end)) (asked (A.pair state.now) wanted)) }
+{
+    let Some(t) = thread_above(state, wanted, last) else {
+        return None
+    };
+    if is_up_to(end, t) { Some(t) } else { None }
+}
+
+// What is wanted, of the lowest thread above `last` and up to `end` that has it.
+fn first_between<A: Inspect>(
+    state: &A,
+    wanted: Wanted,
+    last: Option<Tid>,
+    end: Option<Tid>,
+) -> Option<Event>
+    ensures { result ≡ first_by (sought (A.pair state.now) wanted) (filter (is_above_last (option_map thread_number last)) (filter (is_up_to (option_map thread_number end)) (keys (A.pair state.now).node.threads))) }
 {
     let mut passed = last;
-    while let Some(t) = thread_above(state, passed) {
+    while let Some(t) = thread_between(state, wanted, passed, end) {
         if let Some(event) = ask_thread(state, wanted, t) {
             return Some(event);
         }
         passed = Some(t);
     }
     None
+}
+
+/// What is wanted, of the lowest thread above that one that has it.
+pub fn first_above<A: Inspect>(state: &A, wanted: Wanted, last: Option<Tid>) -> Option<Event>
+    ensures { result ≡ first_by (sought (A.pair state.now) wanted) (filter (is_above_last (option_map thread_number last)) (keys (A.pair state.now).node.threads)) }
+{
+    first_between(state, wanted, last, None)
+}
+
+/// What is wanted, of the lowest thread that has it, where it is that one or a lower one.
+pub fn first_up_to<A: Inspect>(state: &A, wanted: Wanted, end: Tid) -> Option<Event>
+    ensures { result ≡ first_by (sought (A.pair state.now) wanted) (filter (is_up_to (Some end.0)) (keys (A.pair state.now).node.threads)) }
+{
+    first_between(state, wanted, None, Some(end))
 }
 
 // ---- workers and rings
