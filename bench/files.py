@@ -6,13 +6,10 @@ writes 64 KiB in pieces of 4 KiB and reads them back as well. Prints the process
 works differ by, of a byte that is written and read, and each with 1,000 files over that with 10. It stops if the two trees come to
 different checksums, since no answer of these calls depends on what else the tree has.
 """
-import os
-import resource
-import subprocess
 import sys
 
-TOP = os.path.dirname(os.path.dirname(os.path.abspath(__file__)))
-CRATE = os.path.join(TOP, "crates", "file_times")
+import programs
+
 FEW, MANY = 10, 1000
 # A round has so many calls, and moves so many bytes in and out.
 CALLS, BYTES = 4, 65536
@@ -20,21 +17,10 @@ CALLS, BYTES = 4, 65536
 ROUNDS = {"calls": 500000, "bytes": 50000}
 
 
-def build():
-    """Proves and builds the program; its file is out/file_times."""
-    program = os.path.join(CRATE, "out", "file_times")
-    told = subprocess.run(["rt", "run", "--", "bytes", "10", "3"], cwd=CRATE, text=True, stdout=subprocess.PIPE, stderr=subprocess.STDOUT)
-    if not os.path.exists(program):
-        sys.exit(told.stdout + "the program was not built")
-    return program
-
-
 def run(program, work, files, rounds):
     """The processor seconds of a run, and its checksum."""
-    before = resource.getrusage(resource.RUSAGE_CHILDREN)
-    told = subprocess.run([program, work, str(files), str(rounds)], text=True, check=True, stdout=subprocess.PIPE).stdout
-    after = resource.getrusage(resource.RUSAGE_CHILDREN)
-    return after.ru_utime + after.ru_stime - before.ru_utime - before.ru_stime, told.split()[-1]
+    seconds, told = programs.run(program, work, str(files), str(rounds))
+    return seconds, told.split()[-1]
 
 
 def nanoseconds(program, work, files, tries):
@@ -47,7 +33,7 @@ def nanoseconds(program, work, files, tries):
 
 def main():
     tries = int(sys.argv[1]) if len(sys.argv) > 1 else 7
-    program = build()
+    program = programs.build("file_times", "bytes", "10", "3")
     for work in ROUNDS:
         if run(program, work, FEW, 3)[1] != run(program, work, MANY, 3)[1]:
             sys.exit("%s: the two trees came to different checksums" % work)

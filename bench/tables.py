@@ -4,13 +4,10 @@
 Builds crates/table_times and prints for the table of three levels and for the sorted list the processor time a look-up and a page, and
 that with 16,000 pages over that with 16. It stops if the two tables come to different checksums.
 """
-import os
-import resource
-import subprocess
 import sys
 
-TOP = os.path.dirname(os.path.dirname(os.path.abspath(__file__)))
-CRATE = os.path.join(TOP, "crates", "table_times")
+import programs
+
 FEW, MANY = 16, 16000
 # How often each work goes over its pages, so that a run takes some tenths of a second.
 ROUNDS = {
@@ -21,21 +18,9 @@ ROUNDS = {
 }
 
 
-def build():
-    """Proves and builds the program; its file is out/table_times."""
-    program = os.path.join(CRATE, "out", "table_times")
-    told = subprocess.run(["rt", "run", "--", "levels", "map", "16", "3"], cwd=CRATE, text=True, stdout=subprocess.PIPE, stderr=subprocess.STDOUT)
-    if not os.path.exists(program):
-        sys.exit(told.stdout + "the program was not built")
-    return program
-
-
 def run(program, table, work, pages, rounds):
     """The processor seconds of a run, and its checksum."""
-    before = resource.getrusage(resource.RUSAGE_CHILDREN)
-    told = subprocess.run([program, table, work, str(pages), str(rounds)], text=True, check=True, stdout=subprocess.PIPE).stdout
-    after = resource.getrusage(resource.RUSAGE_CHILDREN)
-    return after.ru_utime + after.ru_stime - before.ru_utime - before.ru_stime, told
+    return programs.run(program, table, work, str(pages), str(rounds))
 
 
 def nanoseconds(program, table, work, pages, rounds, tries):
@@ -47,7 +32,7 @@ def nanoseconds(program, table, work, pages, rounds, tries):
 
 def main():
     tries = int(sys.argv[1]) if len(sys.argv) > 1 else 7
-    program = build()
+    program = programs.build("table_times", "levels", "map", "16", "3")
     for work in ("look", "map"):
         for pages in (FEW, MANY):
             if run(program, "levels", work, pages, 3)[1] != run(program, "list", work, pages, 3)[1]:

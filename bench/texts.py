@@ -3,29 +3,13 @@
 
 Builds crates/text_sizes and prints the processor time a byte, and that of the whole over that of the tenth: near 1 where reading is linear.
 """
-import os
-import resource
-import subprocess
-import sys
-
-TOP = os.path.dirname(os.path.dirname(os.path.abspath(__file__)))
-CRATE = os.path.join(TOP, "crates", "text_sizes")
-
-
-def build():
-    """Proves and builds the program; its file is out/text_sizes."""
-    program = os.path.join(CRATE, "out", "text_sizes")
-    told = subprocess.run(["rt", "run", "--", "assemble", "100000", "1"], cwd=CRATE, text=True, stdout=subprocess.PIPE, stderr=subprocess.STDOUT)
-    if not os.path.exists(program):
-        sys.exit(told.stdout + "the program was not built")
-    return program
+import programs
 
 
 def seconds(program, kind, size, rounds):
     """The processor seconds of a run, and the bytes of its text."""
-    begin = resource.getrusage(resource.RUSAGE_CHILDREN).ru_utime
-    told = subprocess.run([program, kind, str(size), str(rounds)], text=True, check=True, stdout=subprocess.PIPE).stdout
-    return resource.getrusage(resource.RUSAGE_CHILDREN).ru_utime - begin, int(told.split()[1])
+    took, told = programs.run(program, kind, str(size), str(rounds))
+    return took, int(told.split()[1])
 
 
 def per_round(program, kind, size, rounds):
@@ -36,7 +20,7 @@ def per_round(program, kind, size, rounds):
 
 
 def main():
-    program = build()
+    program = programs.build("text_sizes", "assemble", "100000", "1")
     print("%-10s %9s %12s %14s %7s" % ("text", "lines", "bytes", "ns a byte", "whole/tenth"))
     for kind, tenth, whole, rounds in (("assemble", 10000, 100000, 10), ("listing", 10000, 100000, 10), ("job", 1, 10, 20)):
         small, small_bytes = per_round(program, kind, tenth, rounds * 10)

@@ -6,7 +6,7 @@ CLONE = 0x100 | 0x200 | 0x400 | 0x800 | 0x10000
 PAGE, TOP = 4096, 0x3F00000000
 LOWEST, TRAMPOLINE = 0x10000, 0x3FFFFFF000
 MOST = 2**64 - 1
-EFAULT, EINVAL, ENOMEM, ENAMETOOLONG = -14, -22, -12, -36
+EFAULT, EINVAL, EFBIG, ENOMEM, ENAMETOOLONG = -14, -22, -27, -12, -36
 
 # the guest, the job, and the whole report
 REPORTS = {}
@@ -69,6 +69,19 @@ ends("a write of all lengths from one page", expects((mmap(PAGE), TOP - PAGE), (
 ends("vectors without an end", expects(((66, 1, MOST, 17), EINVAL), ((66, 1, MOST, -1), EINVAL), ((66, 1, MOST, 1), EFAULT), ((66, 1, 0, 0), 0)), 18, requests=4, faults=1)
 ends("a path without an end", expects((mmap(2 * PAGE), TOP - 2 * PAGE), ((63, 0, TOP - 2 * PAGE, 2 * PAGE), 2 * PAGE), ((56, -100, TOP - 2 * PAGE, 0), ENAMETOOLONG)), 20,
      requests=2, faults=2, given=[(1, b"a" * 2 * PAGE)])
+
+
+
+def far_writes(g):
+    path = g.blob(b"/f\0")
+    for arguments, answer in (
+            ((56, -100, path, 0x42, 0o600), 3), ((68, 3, path, 2, 2**40), EFBIG), ((62, 3, 2**40, 0), 2**40), ((64, 3, path, 2), EFBIG), ((35, -100, path, 0), 0)):
+        g.call(*arguments)
+        g.expect(answer)
+    g.exit()
+
+
+ends("writes far past the limit of a file", guest_of(far_writes), 18, requests=5, faults=1)
 
 # ---- no stack, no code
 
