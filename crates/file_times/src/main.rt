@@ -1,6 +1,8 @@
 //! Opens a new file in a tree, writes 64 KiB in pieces of 4 KiB, reads them back and takes its name away, so many times, and prints a
 //! checksum. The words are WORK FILES ROUNDS: the work is `bytes`, or `calls`, which leaves the writing and reading out; so many files
 //! stand in the tree beside it, at most 1,000.
+//!
+//! Promises nothing of its own, so no edit turns a contract here: what a call does is said by those of linux_files.
 #![tactic(auto)]
 
 ghost use Rattle.std.specs.Prelude.{◌<◌, ◌^◌, IfOk, IsTrue};
