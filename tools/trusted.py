@@ -85,7 +85,7 @@ def antt_items(lines):
         begin = with_comment(lines, at, "--")
         end = with_comment(lines, end, "--") if end < len(lines) else end
         body = lines[begin:end]
-        while body and not body[-1].strip():
+        while len(body) > at - begin + 1 and (not body[-1].strip() or body[-1].startswith("--")):
             body.pop()
         name = re.match(ANTT_WORDS + f"({NAME})", lines[at])[1]
         names = [name]
