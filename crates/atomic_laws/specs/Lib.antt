@@ -1,5 +1,1 @@
 pub mod Additions
-pub mod Doublewords
-pub mod Adding
-pub mod AddingSteps
-pub mod AddingEvents

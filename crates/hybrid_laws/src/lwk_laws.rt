@@ -1,9 +1,7 @@
 // Laws of the events of the lightweight kernel.
-ghost use Rattle.hybrid_laws.specs.Effects.{FramesOf};
-ghost use Rattle.hybrid_laws.specs.LwkHolds.{is_quiet_lwk};
+ghost use Rattle.hybrid_laws.specs.OneProcess.{FramesOf, RingsHold, NodeHolds};
+ghost use Rattle.hybrid_laws.specs.EventKinds.{is_quiet_lwk};
 ghost use Rattle.hybrid_laws.specs.Simulated.{Simulated};
-ghost use Rattle.hybrid_laws.specs.TrapBegins.{RingsHold};
-ghost use Rattle.hybrid_laws.specs.TrapKeeps.{NodeHolds};
 ghost use Rattle.hybrid_model.specs.Claims.{Holds, Runs};
 ghost use Rattle.hybrid_model.specs.Coherence.{OfProcess};
 ghost use Rattle.hybrid_model.specs.Events.{after, after_here, may, may_here};

@@ -1,6 +1,6 @@
 -- The node with a guest more: its number isn't used before.
 use Rattle.file_model.specs.Files.{Files}
-use Rattle.hybrid_laws.specs.Written.{each-entry}
+use Rattle.hybrid_laws.proofs.memory.Written.{each-entry}
 use Rattle.hybrid_model.specs.Tallies.{Each}
 use Rattle.job_boot.specs.Guests.{IsBefore, begun, new_process, new_thread, without_guests}
 use Rattle.job_model.specs.declared.job.Job.{Job}

@@ -1,6 +1,6 @@
 -- A memory that a table's rows show: its pages, and whether one would lose a right.
-use Rattle.hybrid_laws.specs.Lookups.{no-row}
-use Rattle.hybrid_laws.specs.Written.{each-entry}
+use Rattle.hybrid_laws.proofs.maps.Lookups.{no-row}
+use Rattle.hybrid_laws.proofs.memory.Written.{each-entry}
 use Rattle.hybrid_model.specs.Sides.{Row}
 use Rattle.hybrid_model.specs.Spaces.{shown_row}
 use Rattle.hybrid_model.specs.Tallies.{Each}

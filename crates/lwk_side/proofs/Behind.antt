@@ -1,5 +1,5 @@
 -- A thread behind its ecall, and what a step from there comes to.
-use Rattle.hybrid_laws.specs.NodePrimitives.{at-change}
+use Rattle.hybrid_laws.proofs.node.Primitives.{at-change}
 use Rattle.hybrid_model.specs.Sides.{Row}
 use Rattle.hybrid_model.specs.Spaces.{written_back}
 use Rattle.kernel_model.specs.LocalCalls.{waiters}

@@ -1,11 +1,12 @@
 -- A fork: what its trap comes to, where it is refused, and the process that begins.
 use Rattle.file_model.specs.Errno.{EAGAIN, ENOMEM}
 use Rattle.file_model.specs.Files.{Files}
-use Rattle.hybrid_laws.specs.Copying.{frames_copied, put_all, put_all-entries, shown_copied}
-use Rattle.hybrid_laws.specs.Effects.{FramesOf, own-apart}
-use Rattle.hybrid_laws.specs.NewSide.{no-at}
-use Rattle.hybrid_laws.specs.ReapEvent.{count-each, each-none}
-use Rattle.hybrid_laws.specs.Tests.{both}
+use Rattle.hybrid_laws.proofs.memory.Copying.{frames_copied, put_all, put_all-entries, shown_copied}
+use Rattle.hybrid_laws.proofs.memory.Effects.{own-apart}
+use Rattle.hybrid_laws.specs.OneProcess.{FramesOf}
+use Rattle.hybrid_laws.proofs.memory.NewSide.{no-at}
+use Rattle.hybrid_laws.proofs.reap.Reap.{count-each, each-none}
+use Rattle.hybrid_laws.proofs.maps.Tests.{both}
 use Rattle.hybrid_model.specs.Globals.{Rising}
 use Rattle.hybrid_model.specs.Lwk.{after_trap, child_space, memory_here, ran_last, space_here, trapped, view_here, with_child, with_stores, with_view}
 use Rattle.hybrid_model.specs.Pairs.{Here, with_node}

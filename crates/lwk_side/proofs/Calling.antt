@@ -2,8 +2,8 @@
 use Rattle.hybrid_model.specs.Lwk.{caller_of}
 use Rattle.lwk_side.specs.Shown.{shown_caller}
 use Rattle.lwk_side.specs.declared.task.Caller.{Caller}
-use Rattle.hybrid_laws.specs.Lookups.{found-some}
-use Rattle.hybrid_laws.specs.Written.{each-entry}
+use Rattle.hybrid_laws.proofs.maps.Lookups.{found-some}
+use Rattle.hybrid_laws.proofs.memory.Written.{each-entry}
 use Rattle.lwk_threads.proofs.Showing.{entries-each, pair_of}
 use Rattle.mck_word.specs.Maps.{Map, at, each, entries}
 use Rattle.std.proofs.Common.{arith, ap, refl, ◌∙◌, ◌≡◌}

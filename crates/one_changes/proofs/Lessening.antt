@@ -1,6 +1,6 @@
 -- Whether one of the pages of a range would lose a right.
-use Rattle.hybrid_laws.specs.Lookups.{no-row}
-use Rattle.hybrid_laws.specs.Written.{each-entry}
+use Rattle.hybrid_laws.proofs.maps.Lookups.{no-row}
+use Rattle.hybrid_laws.proofs.memory.Written.{each-entry}
 use Rattle.hybrid_model.specs.Tallies.{Each}
 use Rattle.isa_model.specs.Memory.{Memory, Page}
 use Rattle.kernel_model.specs.MemoryCalls.{any_lessened, lessens}

@@ -10,7 +10,8 @@ use Rattle.kernel_model.specs.declared.Change.{Change}
 use Rattle.lwk_node.specs.Shown.{node_of}
 use Rattle.mck_word.specs.EachLaws.{at-each}
 use Rattle.mck_word.specs.Maps.{at, count}
-use Rattle.offer_laws.specs.ChangeFits.{ChangeFits, low-heap, wanted-fits}
+use Rattle.offer_laws.proofs.ChangeFits.{low-heap, wanted-fits}
+use Rattle.offer_laws.specs.ChangeFits.{ChangeFits}
 use Rattle.one_kernel.proofs.Facts.{frames-fit}
 use Rattle.one_kernel.proofs.Told.{le-told}
 use Rattle.one_kernel.specs.Due.{HeapFits}

@@ -1,5 +1,5 @@
 -- Instructions of a thread, one step after another, are the run of its registers and memory.
-use Rattle.hybrid_laws.specs.Threads.{counted-more, counted-thread}
+use Rattle.hybrid_laws.proofs.node.Threads.{counted-more, counted-thread}
 use Rattle.isa_model.specs.Instr.{Outcome, instr, outcome}
 use Rattle.isa_model.specs.Memory.{Memory}
 use Rattle.isa_model.specs.declared.stops.Stop.{Stop}

@@ -1,5 +1,5 @@
 -- A memory call of a thread behind its ecall.
-use Rattle.hybrid_laws.specs.NodePrimitives.{at-change}
+use Rattle.hybrid_laws.proofs.node.Primitives.{at-change}
 use Rattle.isa_model.specs.Registers.{reg}
 use Rattle.kernel_model.specs.MemoryCalls.{Decision, Now, Reply, Round, decide}
 use Rattle.kernel_model.specs.Nodes.{Node, Thread, change_thread, no_thread, process_of, set_pc, thread_of}

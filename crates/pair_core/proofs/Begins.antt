@@ -1,7 +1,7 @@
 -- An event by which a process begins: its side is put in beside the others, and what the parts keep holds of it.
 use Rattle.file_calls.specs.Rooms.{Room}
 use Rattle.file_model.specs.Files.{Files}
-use Rattle.hybrid_laws.specs.Tests.{both}
+use Rattle.hybrid_laws.proofs.maps.Tests.{both}
 use Rattle.hybrid_model.specs.Events.{after, after_here, may_here, of_thread, process_of_event}
 use Rattle.hybrid_model.specs.Pairs.{Here, Pair, here, put_here}
 use Rattle.hybrid_model.specs.Sides.{Row}

@@ -2,7 +2,7 @@
 use Rattle.file_model.specs.Files.{Files}
 use Rattle.lwk_node.specs.Shown.{node_of}
 use Rattle.lwk_node.specs.declared.tables.Node.{Node}
-use Rattle.hybrid_laws.specs.Tests.{both}
+use Rattle.hybrid_laws.proofs.maps.Tests.{both}
 use Rattle.hybrid_model.specs.Lwk.{after_trap, begin_call, trapped, view_here}
 use Rattle.hybrid_model.specs.Pairs.{Here, ring_of}
 use Rattle.hybrid_model.specs.Rings.{ring}

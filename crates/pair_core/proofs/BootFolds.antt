@@ -1,5 +1,5 @@
 -- The boot is what the guests leave, one after another.
-use Rattle.hybrid_laws.specs.BootPages.{length-from}
+use Rattle.hybrid_laws.proofs.boot.Pages.{length-from}
 use Rattle.hybrid_model.specs.Boot.{Shortage, boot, guest_space, shortage, shortage_from, with_guest, zero_frames}
 use Rattle.hybrid_model.specs.Pairs.{Pair}
 use Rattle.hybrid_model.specs.Sides.{Side, new_side, no_lwk}

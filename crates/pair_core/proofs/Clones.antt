@@ -1,6 +1,6 @@
 -- The thread of a trap may clone: it lives, and the next number fits.
 use Rattle.file_model.specs.Files.{Files}
-use Rattle.hybrid_laws.specs.Tests.{both}
+use Rattle.hybrid_laws.proofs.maps.Tests.{both}
 use Rattle.hybrid_model.specs.Sides.{Row}
 use Rattle.kernel_model.specs.Nodes.{has_thread, is_living, is_stopped, thread_of}
 use Rattle.kernel_model.specs.Traps.{may_trap}

@@ -1,5 +1,5 @@
 -- What a copy finds: the pinned frame is below the count, and the piece's page is low.
-use Rattle.hybrid_laws.specs.Copy.{may-copy}
+use Rattle.hybrid_laws.proofs.copy.Copy.{may-copy}
 use Rattle.hybrid_model.specs.Coherence.{OfProcess}
 use Rattle.hybrid_model.specs.Events.{may_here}
 use Rattle.hybrid_model.specs.Pairs.{Here}

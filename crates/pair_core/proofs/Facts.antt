@@ -1,7 +1,7 @@
 -- What an event of the Linux side finds: its test, what coherence says of the process, and room in the ring back.
 use Rattle.file_calls.specs.FileSteps.{FewCalls}
 use Rattle.file_model.specs.Files.{Files}
-use Rattle.guest_laws.specs.RingRoom.{lwk-fits}
+use Rattle.guest_laws.proofs.RingRoom.{lwk-fits}
 use Rattle.hybrid_model.specs.Coherence.{OfProcess}
 use Rattle.hybrid_model.specs.Events.{may_here, process_of_event}
 use Rattle.hybrid_model.specs.Globals.{Places, ring_number}

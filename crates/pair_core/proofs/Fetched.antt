@@ -1,9 +1,9 @@
 -- What coherence says of the first message of a ring.
 use Rattle.clear_rounds.specs.Round.{phase_of}
 use Rattle.clear_rounds.specs.declared.Phase.TheVariants.{Posted as RoundPosted}
-use Rattle.hybrid_laws.specs.FetchAnswer.{answered-for}
-use Rattle.hybrid_laws.specs.FetchInterrupt.{fetched-first}
-use Rattle.hybrid_laws.specs.Reading.{first-of}
+use Rattle.hybrid_laws.proofs.fetch.Answer.{answered-for}
+use Rattle.hybrid_laws.proofs.fetch.Interrupt.{fetched-first}
+use Rattle.hybrid_laws.proofs.maps.Reading.{first-of}
 use Rattle.hybrid_model.specs.Coherence.{ClearIsOf, OfProcess, RequestIs, is_fetched, is_posted, is_posted_phase, posted, state_at}
 use Rattle.hybrid_model.specs.Linux.{is_ended_or_replied}
 use Rattle.hybrid_model.specs.Rings.{head_of, ring}

@@ -1,7 +1,7 @@
 -- No description is held by too many calls: each is of a caller, a process has fewer callers than numbers were given, and there are few processes.
 use Rattle.file_calls.specs.FileSteps.{FewCalls}
-use Rattle.hybrid_laws.specs.Reading.{Each-map}
-use Rattle.hybrid_laws.specs.Written.{each-entry}
+use Rattle.hybrid_laws.proofs.maps.Reading.{Each-map}
+use Rattle.hybrid_laws.proofs.memory.Written.{each-entry}
 use Rattle.hybrid_model.specs.Coherence.{OfProcess}
 use Rattle.hybrid_model.specs.Globals.{Coherent, description_held, holders, is_number, ring_number}
 use Rattle.hybrid_model.specs.Pairs.{Pair}
@@ -10,7 +10,7 @@ use Rattle.hybrid_model.specs.Sides.{Caller, Side, new_side}
 use Rattle.hybrid_model.specs.Tallies.{Each}
 use Rattle.mck_word.specs.MapLaws.{at-put}
 use Rattle.mck_word.specs.Maps.{Map, at, count, entries, no_rows, put}
-use Rattle.offer_laws.specs.Rows.{count-fewer, count-none, count-put, count-same}
+use Rattle.offer_laws.proofs.Rows.{count-fewer, count-none, count-put, count-same}
 use Rattle.offer_laws.specs.Small.{Small}
 use Rattle.std.specs.FinMap as finmap
 use Rattle.std.proofs.Common.{ap, arith, refl, subst, sym, ◌∙◌}

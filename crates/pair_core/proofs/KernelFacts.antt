@@ -3,7 +3,7 @@ use Rattle.file_model.specs.Files.{Files}
 use Rattle.guest_laws.specs.RingRoom.{FindsRoom}
 use Rattle.hybrid_model.specs.Events.{after, after_here, of_line, process_of_event}
 use Rattle.hybrid_model.specs.Globals.{Coherent, copies, table_of}
-use Rattle.hybrid_laws.specs.Tests.{both}
+use Rattle.hybrid_laws.proofs.maps.Tests.{both}
 use Rattle.hybrid_model.specs.Lwk.{left_of_limit, may_run_for}
 use Rattle.hybrid_model.specs.Pairs.{Here, Pair, here, put_here, side_of, with_born}
 use Rattle.hybrid_model.specs.Rings.{post, ring}
@@ -20,7 +20,7 @@ use Rattle.mck_word.specs.Lists.{member}
 use Rattle.mck_word.specs.MapLaws.{at-put}
 use Rattle.mck_word.specs.Maps.{Map, at, put}
 use Rattle.pair_core.proofs.Found.{here-is}
-use Rattle.offer_laws.specs.Sizes.{frame-count-stays}
+use Rattle.offer_laws.proofs.Sizes.{frame-count-stays}
 use Rattle.lwk_node.specs.Shown.{node_of}
 use Rattle.pair_core.specs.Kept.{Kept, Takes}
 use Rattle.pair_core.specs.Ready.{IsSound}

@@ -1,7 +1,7 @@
 -- What the events of the Linux side find in the book, the services and the rings of their process.
-use Rattle.hybrid_laws.specs.Assign.{waiting-first}
-use Rattle.hybrid_laws.specs.Serving.{Serves}
-use Rattle.hybrid_laws.specs.Tests.{not-empty}
+use Rattle.hybrid_laws.proofs.assign.Assign.{waiting-first}
+use Rattle.hybrid_laws.proofs.requests.Serving.{Serves}
+use Rattle.hybrid_laws.proofs.maps.Tests.{not-empty}
 use Rattle.hybrid_model.specs.Coherence.{OfProcess, is_fetched, state_at}
 use Rattle.hybrid_model.specs.Linux.{holds}
 use Rattle.hybrid_model.specs.Sides.{Book, LinuxSide, Side, serves, state_in}

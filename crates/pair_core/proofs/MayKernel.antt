@@ -1,6 +1,6 @@
 -- When an event of the lightweight kernel may happen: its process has a row, and it may happen there.
 use Rattle.file_model.specs.Files.{Files}
-use Rattle.hybrid_laws.specs.LinuxHolds.{is_of_linux}
+use Rattle.hybrid_laws.specs.EventKinds.{is_of_linux}
 use Rattle.hybrid_model.specs.Events.{may, may_here, process_of_event}
 use Rattle.hybrid_model.specs.Globals.{Coherent}
 use Rattle.hybrid_model.specs.Pairs.{here}

@@ -1,7 +1,7 @@
 -- An event that posts a message of a thread finds a place in the thread's ring: the event makes that ring longer.
 use Rattle.file_model.specs.Files.{Files}
 use Rattle.guest_laws.specs.RingRoom.{FindsRoom}
-use Rattle.hybrid_laws.specs.Tests.{both, none-is}
+use Rattle.hybrid_laws.proofs.maps.Tests.{both, none-is}
 use Rattle.hybrid_model.specs.Events.{after_here, has_worker, process_of_event}
 use Rattle.hybrid_model.specs.Lwk.{answer_to, begin_round, begin_vm, begin_vm_of, caller_at, give_answer, interrupt, interrupt_as, is_calling, may_answer, may_begin_vm, noted_may_be_answered, noted_of, post_answer, post_interrupt, thread_served}
 use Rattle.hybrid_model.specs.Pairs.{Here, ring_of, with_side}

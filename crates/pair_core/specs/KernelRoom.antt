@@ -1,6 +1,6 @@
 -- The processes of the lightweight kernel's events, and the memory that they need.
 use Rattle.file_model.specs.Files.{Files}
-use Rattle.hybrid_laws.specs.LinuxHolds.{is_of_linux}
+use Rattle.hybrid_laws.specs.EventKinds.{is_of_linux}
 use Rattle.hybrid_model.specs.Events.{of_thread, process_of_event}
 use Rattle.hybrid_model.specs.Sides.{Row}
 use Rattle.hybrid_model.specs.declared.events.Event.{Event}

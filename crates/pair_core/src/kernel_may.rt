@@ -1,6 +1,6 @@
 // When an event of the lightweight kernel may happen.
 ghost use Rattle.file_model.specs.Files.{Files};
-ghost use Rattle.hybrid_laws.specs.LinuxHolds.{is_of_linux};
+ghost use Rattle.hybrid_laws.specs.EventKinds.{is_of_linux};
 ghost use Rattle.hybrid_model.specs.Events.{may, may_here};
 ghost use Rattle.hybrid_model.specs.Globals.{Coherent};
 ghost use Rattle.hybrid_model.specs.Lwk.{may_reap, may_run_for};

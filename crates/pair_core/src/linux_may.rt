@@ -1,5 +1,5 @@
 // When an event of the Linux side may happen.
-ghost use Rattle.hybrid_laws.specs.LinuxHolds.{is_of_linux};
+ghost use Rattle.hybrid_laws.specs.EventKinds.{is_of_linux};
 ghost use Rattle.hybrid_model.specs.Events.{may, may_here};
 ghost use Rattle.hybrid_model.specs.Globals.{Coherent};
 ghost use Rattle.hybrid_model.specs.Rings.{ring};

@@ -6,7 +6,8 @@ use Rattle.mck_word.specs.Maps.{at, keys}
 use Rattle.mck_word.specs.declared.Tid.{Tid}
 use Rattle.number_groups.specs.Groups.{Grouped, IsNext, NoneFrom}
 use Rattle.number_groups.specs.Laws.{finds-next}
-use Rattle.offer_laws.specs.Small.{Small, numbers-fit}
+use Rattle.offer_laws.proofs.Small.{numbers-fit}
+use Rattle.offer_laws.specs.Small.{Small}
 use Rattle.pair_node.specs.Listed.{IsListed}
 use Rattle.pair_node.specs.declared.members.Members.{Members}
 use Rattle.pair_offers.specs.Seeking.{is_on_core, is_thread_of, next_such, thread_number}

@@ -1,5 +1,5 @@
 -- Which threads an event leaves, from those that it may have made or ended; and what the lists answer.
-use Rattle.hybrid_laws.specs.Tests.{both}
+use Rattle.hybrid_laws.proofs.maps.Tests.{both}
 use Rattle.hybrid_model.specs.Events.{after, may, may_here, of_thread}
 use Rattle.hybrid_model.specs.Globals.{Coherent}
 use Rattle.hybrid_model.specs.Pairs.{Pair, here}
@@ -15,7 +15,7 @@ use Rattle.pair_node.specs.declared.members.Members.{Members}
 use Rattle.pair_node.specs.declared.members.Touched.TheVariants.{Group, Nothing}
 use Rattle.std.proofs.Common.{ap, arith, refl, sym, ◌∙◌}
 use Rattle.std.specs.Prelude.{Bool, None, Option, Some, cond, false, is_some, true, unwrap_or, ℕ, ◌&&◌, ◌≡◌}
-use Rattle.thread_laws.specs.Laws.{intake-keeps, intake-living, intake-stays, none-next, other-keeps, reap-takes, trap-found, trap-keeps}
+use Rattle.thread_laws.proofs.Laws.{intake-keeps, intake-living, intake-stays, none-next, other-keeps, reap-takes, trap-found, trap-keeps}
 use Rattle.thread_laws.specs.Members.{is_in as is_of, process_at, process_in}
 
 -- those that are gone are not where they were

@@ -1,8 +1,8 @@
 -- The numbers of the processes over an event: they stay, and the next number is one more where a process begins.
-use Rattle.hybrid_laws.specs.CallsLast.{born-is}
-use Rattle.hybrid_laws.specs.EveryEvent.{whole_event}
-use Rattle.hybrid_laws.specs.Tests.{both}
-use Rattle.hybrid_laws.specs.WholePair.{has-side}
+use Rattle.hybrid_laws.proofs.calls.Last.{born-is}
+use Rattle.hybrid_laws.proofs.every.Event.{whole_event}
+use Rattle.hybrid_laws.proofs.maps.Tests.{both}
+use Rattle.hybrid_laws.proofs.states.Pair.{has-side}
 use Rattle.hybrid_model.specs.Events.{after, after_here, may, may_here, process_of_event}
 use Rattle.hybrid_model.specs.Globals.{Coherent}
 use Rattle.hybrid_model.specs.Pairs.{Here, Pair, here, with_born}

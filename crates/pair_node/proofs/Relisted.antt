@@ -16,7 +16,7 @@ use Rattle.pair_node.specs.declared.members.Members.{Members}
 use Rattle.pair_node.specs.declared.members.Touched.{Touched}
 use Rattle.std.proofs.Common.{ap, subst, sym, ◌∙◌}
 use Rattle.std.specs.Prelude.{true, ℕ, ◌≡◌}
-use Rattle.thread_laws.specs.Laws.{cores-stay}
+use Rattle.thread_laws.proofs.Laws.{cores-stay}
 use Rattle.thread_laws.specs.Members.{process_at}
 
 moves-along : (a b : Touched) (k n : ℕ) (f g h : Owners) → a ≡ b → k ≡ n → ((u : ℕ) → g u ≡ h u) → Moves b n f h → Moves a k f g

@@ -18,7 +18,8 @@ use Rattle.mck_word.specs.EachLaws.{at-each}
 use Rattle.mck_word.specs.MapLaws.{at-none}
 use Rattle.mck_word.specs.Maps.{Map, at, each, each_row, entries, keys, no_rows, some_row}
 use Rattle.mck_word.specs.declared.Req.{Req}
-use Rattle.offer_laws.specs.Small.{Small, numbers-fit}
+use Rattle.offer_laws.proofs.Small.{numbers-fit}
+use Rattle.offer_laws.specs.Small.{Small}
 use Rattle.hybrid_model.specs.declared.events.Event.{Event}
 use Rattle.pair_node.specs.Listed.{owners, touched_by}
 use Rattle.pair_node.specs.declared.members.Touched.{Touched}

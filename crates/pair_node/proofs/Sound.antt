@@ -1,7 +1,7 @@
 -- A state stays coherent, lasting and small, and the boot is all three.
-use Rattle.hybrid_laws.specs.BootCoherent.{begins, boot-coherent}
-use Rattle.hybrid_laws.specs.CallsLast.{lasting-after}
-use Rattle.hybrid_laws.specs.EveryEvent.{whole_event}
+use Rattle.hybrid_laws.proofs.boot.Coherent.{begins, boot-coherent}
+use Rattle.hybrid_laws.proofs.calls.Last.{lasting-after}
+use Rattle.hybrid_laws.proofs.every.Event.{whole_event}
 use Rattle.hybrid_model.specs.Boot.{boot, shortage}
 use Rattle.hybrid_model.specs.Events.{after}
 use Rattle.hybrid_model.specs.Pairs.{Pair}
@@ -9,12 +9,12 @@ use Rattle.hybrid_model.specs.declared.events.Event.{Event}
 use Rattle.job_model.specs.Prepared.{IsPrepared}
 use Rattle.job_model.specs.declared.image.Image.{Image}
 use Rattle.job_model.specs.declared.job.Job.{Job}
-use Rattle.offer_laws.specs.Small.{boot-small, small-after}
+use Rattle.offer_laws.proofs.Small.{boot-small, small-after}
 use Rattle.pair_core.specs.Ready.{IsSound, Ready}
 use Rattle.std.proofs.Common.{subst, sym}
 use Rattle.std.proofs.Math.Logic.{∥∥₁_map}
 use Rattle.std.specs.Prelude.{List, None, ◌≡◌}
-use Rattle.told_states.specs.ToldState.{coherent-told, lasting-told, small-told}
+use Rattle.told_states.proofs.ToldState.{coherent-told, lasting-told, small-told}
 
 pub sound-told : (pair : Pair) → ∥ IsSound pair ∥₁ → IsSound pair
 sound-told pair t = record {

@@ -1,8 +1,8 @@
 -- The numbers above one in a rising list, as the keys of a map are.
-use Rattle.hybrid_laws.specs.Tests.{both}
+use Rattle.hybrid_laws.proofs.maps.Tests.{both}
 use Rattle.hybrid_model.specs.Tallies.{Each}
 use Rattle.mck_word.specs.Maps.{Map, entries, keys}
-use Rattle.offer_laws.specs.Each.{each-kept, each-then, none-found, none-passes}
+use Rattle.offer_laws.proofs.Each.{each-kept, each-then, none-found, none-passes}
 use Rattle.pair_offers.specs.Seeking.{next_such}
 use Rattle.run_model.specs.Walks.{is_above_last}
 use Rattle.std.proofs.Common.{ap, arith, refl, subst, sym, ◌∙◌}

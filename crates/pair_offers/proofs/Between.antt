@@ -1,5 +1,5 @@
 -- The numbers above one and up to another in a rising list.
-use Rattle.offer_laws.specs.Each.{each-then}
+use Rattle.offer_laws.proofs.Each.{each-then}
 use Rattle.pair_offers.proofs.Above.{Rises}
 use Rattle.pair_offers.proofs.First.{first-not}
 use Rattle.hybrid_model.specs.Tallies.{Each}

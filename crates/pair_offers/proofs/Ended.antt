@@ -4,8 +4,8 @@ use Rattle.hybrid_model.specs.Pairs.{Pair}
 use Rattle.hybrid_model.specs.declared.events.Ending.{Ending}
 use Rattle.hybrid_model.specs.declared.events.Ending.TheVariants.{Unfinished}
 use Rattle.hybrid_model.specs.declared.events.Event.{Event}
-use Rattle.offer_laws.specs.AnOffer.{at-end-is}
-use Rattle.offer_laws.specs.NoOffer.{ends, no-offer-ends}
+use Rattle.offer_laws.proofs.AnOffer.{at-end-is}
+use Rattle.offer_laws.proofs.NoOffer.{ends, no-offer-ends}
 use Rattle.pair_offers.proofs.First.{below, below-split}
 use Rattle.pair_offers.specs.Standing.{offers, some_offers}
 use Rattle.run_model.specs.Walks.{Chosen, actors, first_chosen, offer}

@@ -1,15 +1,13 @@
 -- Which threads there are, each in its process, and what an event leaves of them.
-use Rattle.hybrid_model.specs.Events.{of_thread}
-use Rattle.hybrid_model.specs.Globals.{is_number}
 use Rattle.hybrid_model.specs.Lwk.{caller_of}
 use Rattle.hybrid_model.specs.Sides.{Side}
-use Rattle.hybrid_model.specs.declared.events.Event.TheVariants.{Intake, Reap, Trap}
 use Rattle.hybrid_model.specs.declared.events.Event.{Event}
-use Rattle.ikc_ring.specs.declared.Msg.TheVariants.{Ack, Reply}
+use Rattle.hybrid_model.specs.declared.events.Event.TheVariants.{Intake, Reap, Trap}
 use Rattle.ikc_ring.specs.declared.Msg.{Msg}
-use Rattle.kernel_model.specs.Nodes.{Node, Thread, is_living}
+use Rattle.ikc_ring.specs.declared.Msg.TheVariants.{Ack, Reply}
+use Rattle.kernel_model.specs.Nodes.{Node, Thread}
 use Rattle.mck_word.specs.Maps.{at}
-use Rattle.std.specs.Prelude.{Bool, List, None, Option, Some, cond, false, not, option_map, true, ℕ, ◌&&◌, ◌==◌, ◌||◌, ◌∷◌, ◌≡◌}
+use Rattle.std.specs.Prelude.{Bool, List, None, Option, Some, cond, false, option_map, true, ℕ, ◌==◌, ◌∷◌, ◌≡◌}
 
 abbrev pub process_in : Option Thread → Option ℕ
 process_in o = option_map (λ (x : Thread). x.process) o
@@ -34,24 +32,12 @@ SameThreads before after = (u : ℕ) → process_at after u ≡ process_at befor
 abbrev pub StaysOrGoes : ℕ → Node → Node → Type 0
 StaysOrGoes u before after = (q : ℕ) → process_at after u ≡ Some q → process_at before u ≡ Some q
 
--- the same threads, but that t may be gone
-pub record OnlyOwn (t : ℕ) (before after : Node) : Type 0 where
-  pub others : (u : ℕ) → (u == t) ≡ false → process_at after u ≡ process_at before u
-  pub own : StaysOrGoes t before after
-
 -- the events that neither make a thread nor end one
 abbrev pub keeps_threads : Event → Bool
 keeps_threads (Trap t) = false
 keeps_threads (Intake p) = false
 keeps_threads (Reap p) = false
 keeps_threads _ = true
-
--- After a trap of thread t: it may be gone, and the next number may be that of a thread which is made, in the process of t or as the first one of a process with its number.
-pub record TrapThreads (t : ℕ) (before after : Node) : Type 0 where
-  pub others : (u : ℕ) → (u == t) ≡ false → (u == before.next_number) ≡ false → process_at after u ≡ process_at before u
-  pub own : StaysOrGoes t before after
-  pub unmade : process_at before before.next_number ≡ None
-  pub made : (q : ℕ) → process_at after before.next_number ≡ Some q → (q == of_thread before t || q == before.next_number) ≡ true
 
 -- the thread to which the first message brings an answer: the caller of a Reply, the one whose round an Ack ends
 abbrev pub answered_by : Side → List Msg → Option ℕ
@@ -61,8 +47,3 @@ answered_by side _ = None
 
 abbrev pub thread_answered : Side → Option ℕ
 thread_answered side = answered_by side side.to_lwk
-
--- After a message for process p: the thread that gets an answer, one of p's, is gone where p doesn't live, and no other.
-pub record IntakeThreads (p : ℕ) (answered : Option ℕ) (before after : Node) : Type 0 where
-  pub exactly : (u : ℕ) → process_at after u ≡ cond (is_number u answered && not (is_living before p)) None (process_at before u)
-  pub others : (u : ℕ) → is_in p (process_at before u) ≡ false → process_at after u ≡ process_at before u

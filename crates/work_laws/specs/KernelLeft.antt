@@ -13,7 +13,7 @@ use Rattle.kernel_model.specs.declared.Does.TheVariants.{Asleep, Called, InVm, I
 use Rattle.kernel_model.specs.declared.ranges.Range.{Range}
 use Rattle.mck_word.specs.Maps.{entries, total}
 use Rattle.std.specs.Prelude.{Bool, List, [], cond, false, length, nat_lt, not, sum_by, true, ℕ, ◌%◌, ◌&&◌, ◌*◌, ◌+◌, ◌-◌, ◌/◌, ◌∷◌}
-use Rattle.work_laws.specs.Signals.{signals}
+use Rattle.work_laws.specs.SignalCount.{signals}
 
 -- ---- a call
 

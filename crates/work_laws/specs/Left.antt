@@ -1,5 +1,5 @@
 -- What is left to do, as one number of the state.
-use Rattle.hybrid_laws.specs.SoundNode.{stops}
+use Rattle.hybrid_laws.specs.Stopped.{stops}
 use Rattle.hybrid_model.specs.Events.{after}
 use Rattle.hybrid_model.specs.Lwk.{left_of_limit}
 use Rattle.hybrid_model.specs.Pairs.{Pair}

@@ -1,4 +1,4 @@
-use Rattle.atomic_laws.specs.AddingEvents.{stretch-adds}
+use Rattle.atomic_laws.proofs.AddingEvents.{stretch-adds}
 use Rattle.atomic_laws.proofs.no_addition_is_lost.Goals as goal
 
 pub returns : goal.returns

@@ -1,4 +1,4 @@
-use Rattle.atomic_laws.specs.AddingEvents.{event-adds, event-whole, journal-whole}
+use Rattle.atomic_laws.proofs.AddingEvents.{event-adds, event-whole, journal-whole}
 use Rattle.atomic_laws.proofs.one_event_adds.Goals as goal
 
 pub returns-clause-adds : goal.returns-clause-adds

@@ -1,4 +1,4 @@
-use Rattle.atomic_laws.specs.Adding.{counts, instr-adds}
+use Rattle.atomic_laws.proofs.Adding.{counts, instr-adds}
 use Rattle.atomic_laws.proofs.one_instruction_adds.Goals as goal
 
 pub returns-clause-adds : goal.returns-clause-adds

@@ -1,4 +1,4 @@
-use Rattle.guest_laws.specs.SameReport.{ends-alike, same-report, same-shown}
+use Rattle.guest_laws.proofs.SameReport.{ends-alike, same-report, same-shown}
 use Rattle.guest_laws.proofs.images_tell_the_report.Goals as goal
 
 pub returns-clause-shown : goal.returns-clause-shown

@@ -1,6 +1,6 @@
-use Rattle.guest_laws.specs.RingRoom.{finds-room, rings-fit}
-use Rattle.hybrid_laws.specs.JournalLaws.{each-event}
-use Rattle.hybrid_laws.specs.LwkEvents.{each-lwk}
+use Rattle.guest_laws.proofs.RingRoom.{finds-room, rings-fit}
+use Rattle.hybrid_laws.proofs.journal.Journal.{each-event}
+use Rattle.hybrid_laws.proofs.every.Lwk.{each-lwk}
 use Rattle.guest_laws.proofs.no_ring_is_full.Goals as goal
 
 pub returns-clause-fit : goal.returns-clause-fit

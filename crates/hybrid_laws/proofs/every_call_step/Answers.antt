@@ -1,4 +1,4 @@
-use Rattle.hybrid_laws.specs.CallLaws.{carries-file-step, carries-piece}
+use Rattle.hybrid_laws.proofs.calls.Laws.{carries-file-step, carries-piece}
 use Rattle.hybrid_laws.proofs.every_call_step.Goals as goal
 
 pub returns-clause-file_step : goal.returns-clause-file_step

@@ -1,4 +1,4 @@
-use Rattle.hybrid_laws.specs.LinuxHolds.{holds_linux}
+use Rattle.hybrid_laws.proofs.every.Linux.{holds_linux}
 use Rattle.hybrid_laws.proofs.every_linux_event.Goals as goal
 
 pub returns : goal.returns

@@ -3,7 +3,8 @@ use Rattle.kernel_model.specs.MemoryCalls.{decide}
 use Rattle.kernel_model.specs.Nodes.{Process, no_process}
 use Rattle.lwk_changes.proofs.decide.Goals as goal
 use Rattle.lwk_tables.specs.Lacks.{memory}
-use Rattle.offer_laws.specs.ChangeFits.{DecisionFits, decide-fits}
+use Rattle.offer_laws.proofs.ChangeFits.{decide-fits}
+use Rattle.offer_laws.specs.ChangeFits.{DecisionFits}
 use Rattle.std.proofs.Common.{ap, arith, refl, subst, sym, ◌∙◌}
 use Rattle.std.specs.Prelude.{[]}
 

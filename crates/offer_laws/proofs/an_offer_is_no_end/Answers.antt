@@ -1,4 +1,4 @@
-use Rattle.offer_laws.specs.AnOffer.{an-offer, at-end-is, goes-on}
+use Rattle.offer_laws.proofs.AnOffer.{an-offer, at-end-is, goes-on}
 use Rattle.offer_laws.proofs.an_offer_is_no_end.Goals as goal
 
 pub returns-clause-under_way : goal.returns-clause-under_way

@@ -1,4 +1,4 @@
-use Rattle.offer_laws.specs.Walking.{end-is-no-choice, next-may}
+use Rattle.offer_laws.proofs.Walking.{end-is-no-choice, next-may}
 use Rattle.offer_laws.proofs.every_choice.Goals as goal
 
 pub returns-clause-may : goal.returns-clause-may

@@ -1,7 +1,7 @@
 use Rattle.hybrid_model.specs.Boot.{boot}
 use Rattle.hybrid_model.specs.Journals.{state}
-use Rattle.offer_laws.specs.NoOffer.{ends}
-use Rattle.offer_laws.specs.Walking.{walk-ends, walk-legal, walk-over}
+use Rattle.offer_laws.proofs.NoOffer.{ends}
+use Rattle.offer_laws.proofs.Walking.{walk-ends, walk-legal, walk-over}
 use Rattle.offer_laws.proofs.every_walk.Goals as goal
 
 pub returns-clause-legal : goal.returns-clause-legal

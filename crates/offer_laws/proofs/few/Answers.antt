@@ -1,6 +1,6 @@
-use Rattle.hybrid_laws.specs.BootCoherent.{boot-coherent}
+use Rattle.hybrid_laws.proofs.boot.Coherent.{boot-coherent}
 use Rattle.hybrid_model.specs.Boot.{boot}
-use Rattle.offer_laws.specs.Small.{boot-small, numbers-fit, small-after, small-journal}
+use Rattle.offer_laws.proofs.Small.{boot-small, numbers-fit, small-after, small-journal}
 use Rattle.offer_laws.proofs.few.Goals as goal
 
 pub returns-clause-begins : goal.returns-clause-begins

@@ -1,4 +1,4 @@
-use Rattle.offer_laws.specs.NoOffer.{ends, no-offer-ends}
+use Rattle.offer_laws.proofs.NoOffer.{ends, no-offer-ends}
 use Rattle.offer_laws.proofs.no_offer_is_the_end.Goals as goal
 
 pub returns-clause-over : goal.returns-clause-over

@@ -1,4 +1,4 @@
-use Rattle.offer_laws.specs.OffersMay.{offer-may}
+use Rattle.offer_laws.proofs.OffersMay.{offer-may}
 use Rattle.offer_laws.proofs.offers_may.Goals as goal
 
 pub returns : goal.returns

@@ -1,4 +1,4 @@
-use Rattle.offer_laws.specs.Over.{end-is-over, over-is-end}
+use Rattle.offer_laws.proofs.Over.{end-is-over, over-is-end}
 use Rattle.offer_laws.proofs.the_candidates_stand_for_all.Goals as goal
 
 pub returns-clause-over : goal.returns-clause-over

@@ -1,5 +1,5 @@
 use Rattle.thread_laws.proofs.a_trap_keeps_other_threads.Goals as goal
-use Rattle.thread_laws.specs.Laws.{none-next, trap-keeps}
+use Rattle.thread_laws.proofs.Laws.{none-next, trap-keeps}
 
 pub returns-clause-others : goal.returns-clause-others
 returns-clause-others c = λ pair t u known allowed n m. (trap-keeps pair t known allowed).others u n m

@@ -1,5 +1,5 @@
 use Rattle.thread_laws.proofs.an_intake_keeps_other_threads.Goals as goal
-use Rattle.thread_laws.specs.Laws.{intake-keeps}
+use Rattle.thread_laws.proofs.Laws.{intake-keeps}
 
 pub returns-clause-exactly : goal.returns-clause-exactly
 returns-clause-exactly c = λ pair p u coherent. (intake-keeps pair p coherent).exactly u

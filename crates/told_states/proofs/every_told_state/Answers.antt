@@ -1,5 +1,5 @@
 use Rattle.told_states.proofs.every_told_state.Goals as goal
-use Rattle.told_states.specs.ToldState.{coherent-told, lasting-told, small-told}
+use Rattle.told_states.proofs.ToldState.{coherent-told, lasting-told, small-told}
 
 pub returns-clause-coherent : goal.returns-clause-coherent
 returns-clause-coherent c = coherent-told

@@ -1,4 +1,4 @@
-use Rattle.work_laws.specs.Allowance.{work-allowed}
+use Rattle.work_laws.proofs.journal.Allowance.{work-allowed}
 use Rattle.work_laws.proofs.bounded_work.Goals as goal
 
 pub returns : goal.returns

@@ -1,5 +1,5 @@
-use Rattle.work_laws.specs.Allowance.{lessens-always}
-use Rattle.work_laws.specs.EachLessens.{event-lessens}
+use Rattle.work_laws.proofs.journal.Allowance.{lessens-always}
+use Rattle.work_laws.proofs.journal.EachLessens.{event-lessens}
 use Rattle.work_laws.proofs.every_event.Goals as goal
 
 pub returns-clause-lessens : goal.returns-clause-lessens

@@ -1,4 +1,4 @@
-use Rattle.work_laws.specs.LeftLess.{left-always, left-length, left-less}
+use Rattle.work_laws.proofs.journal.LeftLess.{left-always, left-length, left-less}
 use Rattle.work_laws.proofs.every_event_leaves_less.Goals as goal
 
 pub returns-clause-falls : goal.returns-clause-falls

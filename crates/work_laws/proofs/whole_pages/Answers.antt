@@ -1,6 +1,6 @@
-use Rattle.hybrid_laws.specs.BootCoherent.{boot-coherent}
+use Rattle.hybrid_laws.proofs.boot.Coherent.{boot-coherent}
 use Rattle.hybrid_model.specs.Boot.{boot}
-use Rattle.work_laws.specs.WholePages.{whole-after, whole-boot, whole-journal}
+use Rattle.work_laws.proofs.pages.Whole.{whole-after, whole-boot, whole-journal}
 use Rattle.work_laws.proofs.whole_pages.Goals as goal
 
 pub returns-clause-begins : goal.returns-clause-begins

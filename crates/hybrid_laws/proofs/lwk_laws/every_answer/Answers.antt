@@ -1,5 +1,5 @@
-use Rattle.hybrid_laws.specs.WholeAnswerEmpty.{coherent_answer_empty, simulated_pair_answer_empty}
-use Rattle.hybrid_laws.specs.WholeAnswerRow.{coherent_answer_row, simulated_pair_answer_row}
+use Rattle.hybrid_laws.proofs.answer.WholeEmpty.{coherent_answer_empty, simulated_pair_answer_empty}
+use Rattle.hybrid_laws.proofs.answer.WholeRow.{coherent_answer_row, simulated_pair_answer_row}
 use Rattle.hybrid_laws.proofs.lwk_laws.every_answer.Goals as goal
 
 pub returns-clause-with_row : goal.returns-clause-with_row

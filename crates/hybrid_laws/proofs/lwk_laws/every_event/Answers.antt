@@ -1,4 +1,4 @@
-use Rattle.hybrid_laws.specs.EveryEvent.{whole_event}
+use Rattle.hybrid_laws.proofs.every.Event.{whole_event}
 use Rattle.hybrid_laws.proofs.lwk_laws.every_event.Goals as goal
 
 pub returns : goal.returns

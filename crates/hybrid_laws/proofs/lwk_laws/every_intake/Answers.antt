@@ -1,4 +1,4 @@
-use Rattle.hybrid_laws.specs.LwkHolds.{coherent_intake, simulated_pair_intake}
+use Rattle.hybrid_laws.proofs.every.QuietLwk.{coherent_intake, simulated_pair_intake}
 use Rattle.hybrid_laws.proofs.lwk_laws.every_intake.Goals as goal
 
 pub returns-clause-coherent : goal.returns-clause-coherent

@@ -1,4 +1,4 @@
-use Rattle.hybrid_laws.specs.LwkHolds.{holds_quiet_lwk}
+use Rattle.hybrid_laws.proofs.every.QuietLwk.{holds_quiet_lwk}
 use Rattle.hybrid_laws.proofs.lwk_laws.every_quiet_lwk_event.Goals as goal
 
 pub returns : goal.returns

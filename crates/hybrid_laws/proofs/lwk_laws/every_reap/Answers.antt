@@ -1,4 +1,4 @@
-use Rattle.hybrid_laws.specs.WholeReap.{coherent_reap, simulated_pair_reap}
+use Rattle.hybrid_laws.proofs.reap.Whole.{coherent_reap, simulated_pair_reap}
 use Rattle.hybrid_laws.proofs.lwk_laws.every_reap.Goals as goal
 
 pub returns : goal.returns

@@ -1,4 +1,4 @@
-use Rattle.hybrid_laws.specs.TrapEvent.{keeps_trap, others_trap, simulated_trap}
+use Rattle.hybrid_laws.proofs.trap.Trap.{keeps_trap, others_trap, simulated_trap}
 use Rattle.hybrid_laws.proofs.lwk_laws.every_trap_of_one_process.Goals as goal
 
 pub returns-clause-own : goal.returns-clause-own

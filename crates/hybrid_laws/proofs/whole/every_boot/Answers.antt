@@ -1,4 +1,4 @@
-use Rattle.hybrid_laws.specs.BootCoherent.{begins, boot-coherent, boots}
+use Rattle.hybrid_laws.proofs.boot.Coherent.{begins, boot-coherent, boots}
 use Rattle.hybrid_laws.proofs.whole.every_boot.Goals as goal
 
 pub returns-clause-coherent : goal.returns-clause-coherent

@@ -1,5 +1,5 @@
-use Rattle.hybrid_laws.specs.JournalLaws.{each-event, follows}
-use Rattle.hybrid_laws.specs.LwkEvents.{each-lwk}
+use Rattle.hybrid_laws.proofs.journal.Journal.{each-event, follows}
+use Rattle.hybrid_laws.proofs.every.Lwk.{each-lwk}
 use Rattle.hybrid_laws.proofs.whole.every_journal_follows.Goals as goal
 
 pub returns : goal.returns

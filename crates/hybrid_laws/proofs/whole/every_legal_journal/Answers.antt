@@ -1,6 +1,6 @@
-use Rattle.hybrid_laws.specs.BootCoherent.{begins}
-use Rattle.hybrid_laws.specs.JournalLaws.{each-event, headline}
-use Rattle.hybrid_laws.specs.LwkEvents.{each-lwk}
+use Rattle.hybrid_laws.proofs.boot.Coherent.{begins}
+use Rattle.hybrid_laws.proofs.journal.Journal.{each-event, headline}
+use Rattle.hybrid_laws.proofs.every.Lwk.{each-lwk}
 use Rattle.hybrid_laws.proofs.whole.every_legal_journal.Goals as goal
 
 pub returns : goal.returns

@@ -1,4 +1,4 @@
-use Rattle.hybrid_laws.specs.LwkEvents.{each-lwk}
+use Rattle.hybrid_laws.proofs.every.Lwk.{each-lwk}
 use Rattle.hybrid_laws.proofs.whole.every_lwk_event.Goals as goal
 
 pub returns : goal.returns

@@ -1,4 +1,4 @@
-use Rattle.hybrid_laws.specs.NoStall.{no-stall}
+use Rattle.hybrid_laws.proofs.journal.NoStall.{no-stall}
 use Rattle.hybrid_laws.proofs.whole.no_added_stall.Goals as goal
 
 pub returns : goal.returns

@@ -1,4 +1,4 @@
-use Rattle.hybrid_laws.specs.Written.{each-entry}
+use Rattle.hybrid_laws.proofs.memory.Written.{each-entry}
 use Rattle.hybrid_model.specs.Tallies.{Each}
 use Rattle.lwk_node.specs.Shown.{node_of, shown_process}
 use Rattle.lwk_node.specs.declared.process_rows.Process.{Process}

@@ -5,7 +5,7 @@ use Rattle.lwk_node.specs.Shown.{node_of}
 use Rattle.lwk_side.proofs.kernel.Lwk.make_ack_room.Goals as goal
 use Rattle.lwk_side.specs.Changing.{HasAckRoom}
 use Rattle.lwk_tables.specs.Lacks.{memory}
-use Rattle.offer_laws.specs.ChangeFits.{wanted-fits}
+use Rattle.offer_laws.proofs.ChangeFits.{wanted-fits}
 use Rattle.std.proofs.Common.{ap, subst, sym, ◌∙◌}
 use Rattle.std.proofs.lemmas.Result.{on_ok_weaker}
 use Rattle.std.specs.Prelude.{Option, length, ℕ}

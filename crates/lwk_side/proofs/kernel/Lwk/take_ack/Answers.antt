@@ -9,7 +9,7 @@ use Rattle.lwk_node.specs.Shown.{node_of}
 use Rattle.lwk_side.proofs.Acked.{ack-is, no-change, over-is}
 use Rattle.lwk_side.proofs.kernel.Lwk.take_ack.Goals as goal
 use Rattle.lwk_side.specs.Shown.{here_of}
-use Rattle.offer_laws.specs.ChangeFits.{wanted-fits}
+use Rattle.offer_laws.proofs.ChangeFits.{wanted-fits}
 use Rattle.std.proofs.Common.{ap, sym, ◌∙◌}
 use Rattle.std.specs.Prelude.{None, Option, Some}
 

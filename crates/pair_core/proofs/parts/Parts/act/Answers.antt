@@ -1,5 +1,5 @@
-use Rattle.hybrid_laws.specs.Act.{may-act}
-use Rattle.hybrid_laws.specs.Tests.{both}
+use Rattle.hybrid_laws.proofs.act.Act.{may-act}
+use Rattle.hybrid_laws.proofs.maps.Tests.{both}
 use Rattle.hybrid_model.specs.Events.{act_file, has_worker}
 use Rattle.hybrid_model.specs.Linux.{may_act}
 use Rattle.hybrid_model.specs.Pairs.{Here}

@@ -1,5 +1,5 @@
-use Rattle.hybrid_laws.specs.Assign.{may-assign}
-use Rattle.hybrid_laws.specs.Tests.{both}
+use Rattle.hybrid_laws.proofs.assign.Assign.{may-assign}
+use Rattle.hybrid_laws.proofs.maps.Tests.{both}
 use Rattle.hybrid_model.specs.Events.{has_worker, with_linux}
 use Rattle.hybrid_model.specs.Linux.{may_assign}
 use Rattle.hybrid_model.specs.Pairs.{Here}

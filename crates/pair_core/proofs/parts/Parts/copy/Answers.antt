@@ -1,5 +1,5 @@
-use Rattle.hybrid_laws.specs.Copy.{may-copy}
-use Rattle.hybrid_laws.specs.Tests.{both}
+use Rattle.hybrid_laws.proofs.copy.Copy.{may-copy}
+use Rattle.hybrid_laws.proofs.maps.Tests.{both}
 use Rattle.hybrid_model.specs.Events.{copy, copy_to, has_worker}
 use Rattle.hybrid_model.specs.Linux.{may_copy, moved_by}
 use Rattle.hybrid_model.specs.Pairs.{Here}

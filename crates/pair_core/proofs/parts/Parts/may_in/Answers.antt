@@ -1,4 +1,4 @@
-use Rattle.hybrid_laws.specs.LinuxHolds.{is_of_linux}
+use Rattle.hybrid_laws.specs.EventKinds.{is_of_linux}
 use Rattle.hybrid_model.specs.Events.{has_worker, may_here}
 use Rattle.hybrid_model.specs.Lwk.{may_answer}
 use Rattle.hybrid_model.specs.Pairs.{Here}

@@ -1,4 +1,4 @@
-use Rattle.hybrid_laws.specs.LinuxHolds.{is_of_linux}
+use Rattle.hybrid_laws.specs.EventKinds.{is_of_linux}
 use Rattle.hybrid_model.specs.Events.{may, may_here}
 use Rattle.mck_word.specs.Maps.{at}
 use Rattle.pair_core.proofs.MayLinux.{may-nowhere, may-where, no-some, none-linux}

@@ -1,4 +1,4 @@
-use Rattle.hybrid_laws.specs.Miss.{may-miss}
+use Rattle.hybrid_laws.proofs.miss.Miss.{may-miss}
 use Rattle.hybrid_model.specs.Events.{miss}
 use Rattle.hybrid_model.specs.Pairs.{Here, with_side}
 use Rattle.hybrid_model.specs.declared.events.Event.TheVariants.{Miss}

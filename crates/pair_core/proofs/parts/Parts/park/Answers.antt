@@ -1,4 +1,4 @@
-use Rattle.hybrid_laws.specs.Park.{may-park}
+use Rattle.hybrid_laws.proofs.park.Park.{may-park}
 use Rattle.hybrid_model.specs.Events.{park_here}
 use Rattle.hybrid_model.specs.Pairs.{Here}
 use Rattle.hybrid_model.specs.declared.events.Event.TheVariants.{Park}

@@ -1,4 +1,4 @@
-use Rattle.hybrid_laws.specs.Pin.{may-pin}
+use Rattle.hybrid_laws.proofs.pin.Pin.{may-pin}
 use Rattle.hybrid_model.specs.Pairs.{Here, with_side}
 use Rattle.hybrid_model.specs.declared.events.Event.TheVariants.{Pin}
 use Rattle.pair_core.proofs.Facts.{finds, kept-put, worker-small}

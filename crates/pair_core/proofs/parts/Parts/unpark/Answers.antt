@@ -1,4 +1,4 @@
-use Rattle.hybrid_laws.specs.Tests.{both}
+use Rattle.hybrid_laws.proofs.maps.Tests.{both}
 use Rattle.hybrid_model.specs.Events.{unpark_here}
 use Rattle.hybrid_model.specs.Linux.{is_parked}
 use Rattle.hybrid_model.specs.Pairs.{Here}

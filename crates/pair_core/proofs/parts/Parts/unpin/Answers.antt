@@ -1,4 +1,4 @@
-use Rattle.hybrid_laws.specs.Tests.{both}
+use Rattle.hybrid_laws.proofs.maps.Tests.{both}
 use Rattle.hybrid_model.specs.Events.{has_worker}
 use Rattle.hybrid_model.specs.Linux.{has_pin, may_unpin}
 use Rattle.hybrid_model.specs.Pairs.{Here, with_side}

@@ -1,0 +1,4 @@
+pub mod Doublewords
+pub mod Adding
+pub mod AddingSteps
+pub mod AddingEvents

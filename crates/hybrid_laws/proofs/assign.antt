@@ -1,0 +1,3 @@
+-- Assign: a worker takes a request.
+pub mod Assign
+pub mod Whole

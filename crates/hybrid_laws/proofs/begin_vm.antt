@@ -1,0 +1,3 @@
+-- BeginVm: a round begins, and its Clear is posted.
+pub mod BeginVm
+pub mod Whole

@@ -1,0 +1,3 @@
+-- Deliver: a signal is delivered.
+pub mod Deliver
+pub mod Whole

@@ -1,0 +1,3 @@
+-- Files: how descriptions are counted, and what each operation does to them.
+pub mod Descriptions
+pub mod Operations

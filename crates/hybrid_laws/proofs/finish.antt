@@ -1,0 +1,3 @@
+-- Finish: the Reply is posted, and the book forgets the request.
+pub mod Finish
+pub mod Whole

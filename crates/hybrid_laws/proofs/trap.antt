@@ -1,0 +1,20 @@
+-- Trap: done at once, a delegated call that begins, a change of the memory, or a process that begins.
+pub mod Trap
+pub mod Says
+pub mod DecideSays
+pub mod Keeps
+pub mod Goes
+pub mod DoneAtOnce
+pub mod Begins
+pub mod BeginCall
+pub mod Started
+pub mod Posted
+pub mod Call
+pub mod CallShown
+pub mod Changes
+pub mod Forks
+pub mod ForkNode
+pub mod HandsOut
+pub mod Whole
+pub mod WholeChanges
+pub mod WholeForks

@@ -1,0 +1,3 @@
+-- Unpark: a parked request goes on.
+pub mod Unpark
+pub mod Whole

@@ -1,0 +1,3 @@
+-- Unpin: a pin goes.
+pub mod Unpin
+pub mod Whole

@@ -1,0 +1,3 @@
+-- Wait: a thread that waits for a child goes on.
+pub mod Wait
+pub mod Whole

@@ -1,0 +1,15 @@
+pub mod Each
+pub mod Silence
+pub mod OffersMay
+pub mod NoOffer
+pub mod AnOffer
+pub mod Rows
+pub mod Sizes
+pub mod ChangeFits
+pub mod MemoryStays
+pub mod MemoryRests
+pub mod MemoryEvents
+pub mod MemoryBoot
+pub mod Small
+pub mod Walking
+pub mod Over

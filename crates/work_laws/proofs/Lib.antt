@@ -1,0 +1,11 @@
+pub mod events
+pub mod copy
+pub mod fetch
+pub mod trap
+pub mod calls
+pub mod files
+pub mod node
+pub mod steps
+pub mod sides
+pub mod pages
+pub mod journal
