@@ -78,16 +78,16 @@ def dependencies():
 
 
 def files_used(law):
-    """The law's file and those of its crate that it uses, in the order of the crate's list."""
-    specs = TOP / "crates" / LAWS / "specs"
-    found, open_names = set(), [law]
+    """The law's file and those of its crate that it uses, as paths in the crate without their endings, each folder's in the order of their names."""
+    crate = TOP / "crates" / LAWS
+    found, open_names = set(), [f"proofs/{law}"]
     while open_names:
         name = open_names.pop()
         if name not in found:
             found.add(name)
-            open_names += re.findall(rf"^(?:pub )?use Rattle\.{LAWS}\.specs\.(\w+)", (specs / f"{name}.antt").read_text(), re.M)
-    listed = re.findall(r"^pub mod (\w+)", (specs / "Lib.antt").read_text(), re.M)
-    return [name for name in listed if name in found]
+            used = re.findall(rf"^(?:pub )?use Rattle\.{LAWS}\.((?:specs|proofs)(?:\.\w+)+)", (crate / f"{name}.antt").read_text(), re.M)
+            open_names += [path.replace(".", "/") for path in used]
+    return sorted(found)
 
 
 def make_workspace(top):
@@ -122,31 +122,43 @@ def moved(text, crates):
 
 def put_files(top, crates, names, wrong):
     """Puts the definitions of these crates and the files of these laws into the one crate; `wrong` has the texts that are changed, by path."""
-    specs = top / "crates" / LAWS / "specs"
-    for file in specs.glob("*.antt"):
+    crate_of_laws = top / "crates" / LAWS
+    for file in [*crate_of_laws.rglob("*.antt")]:
         file.unlink()
-    modules = []
+    lists = {}
     for crate in crates:
         for name in re.findall(r"^pub mod (\w+)", (TOP / "crates" / crate / "specs" / "Lib.antt").read_text(), re.M):
             path = f"{crate}/specs/{name}.antt"
-            modules.append(module(crate, name))
-            (specs / f"{modules[-1]}.antt").write_text(moved(wrong.get(path) or (TOP / "crates" / path).read_text(), crates))
+            put_file(crate_of_laws, lists, f"specs/{module(crate, name)}", moved(wrong.get(path) or (TOP / "crates" / path).read_text(), crates))
     for name in names:
-        modules.append(name)
-        (specs / f"{name}.antt").write_text(moved((TOP / "crates" / LAWS / "specs" / f"{name}.antt").read_text(), crates))
-    (specs / "Lib.antt").write_text("".join(f"pub mod {name}\n" for name in modules))
+        put_file(crate_of_laws, lists, name, moved((TOP / "crates" / LAWS / f"{name}.antt").read_text(), crates))
+    for path, modules in lists.items():
+        (crate_of_laws / path).write_text("".join(f"pub mod {name}\n" for name in modules))
+
+
+def put_file(crate, lists, name, text):
+    """Writes a file of a crate, and notes it in the list of its folder, and that folder in the list above."""
+    file = crate / f"{name}.antt"
+    file.parent.mkdir(parents=True, exist_ok=True)
+    file.write_text(text)
+    parts = name.split("/")
+    for at in range(1, len(parts)):
+        path = f"{parts[0]}/Lib.antt" if at == 1 else "/".join(parts[:at]) + ".antt"
+        listed = lists.setdefault(path, [])
+        if parts[at] not in listed:
+            listed.append(parts[at])
 
 
 def check(top):
     """What the checker says of the crate of laws: its errors in this crate, whether all is proved, and the whole output."""
     done = subprocess.run(["rt", "check"], cwd=top / "crates" / LAWS, capture_output=True, text=True)
     output = done.stdout + done.stderr
-    errors = [Error(file, int(line), text) for file, line, text in re.findall(r"^\./specs/(\w+)\.antt:(\d+):\d+: error: (.*)$", output, re.M)]
+    errors = [Error(file, int(line), text) for file, line, text in re.findall(r"^\./([\w/]+)\.antt:(\d+):\d+: error: (.*)$", output, re.M)]
     return errors, "logic=proved" in output, output
 
 
 def stood_at(error):
-    return (TOP / "crates" / LAWS / "specs" / f"{error.file}.antt").read_text().splitlines()[error.line - 1].strip()
+    return (TOP / "crates" / LAWS / f"{error.file}.antt").read_text().splitlines()[error.line - 1].strip()
 
 
 def changed(text, pairs):
@@ -167,12 +179,13 @@ def try_variant(top, name, variant):
         return False
     put_files(top, definitions_from(crate), files_used(variant.law), {variant.file: wrong})
     errors, proved, output = check(top)
-    of_law = [error for error in errors if error.file == variant.law and "not checked" not in error.text]
-    others = {error.file for error in errors} - {variant.law}
-    if of_law and not any(other.startswith(module(crate, "")) for other in others):
+    law = f"proofs/{variant.law}"
+    of_law = [error for error in errors if error.file == law and "not checked" not in error.text]
+    others = {error.file for error in errors} - {law}
+    if of_law and not any(other.startswith(f"specs/{module(crate, '')}") for other in others):
         print(f"refused      {variant.title}: {variant.what}")
         for error in of_law:
-            print(f"             {LAWS}/specs/{error.file}.antt:{error.line}: {stood_at(error)[:120]}")
+            print(f"             {LAWS}/{error.file}.antt:{error.line}: {stood_at(error)[:120]}")
         return True
     print(f"{'NOT REFUSED' if proved else 'FAILED     '}  {variant.title}, by {variant.law}")
     if not proved:
@@ -182,9 +195,7 @@ def try_variant(top, name, variant):
 
 def try_unchanged(top, found):
     """Whether the files of all these laws are proved under the definitions as they are."""
-    wanted = set().union(*(files_used(variant.law) for variant in found.values()))
-    listed = re.findall(r"^pub mod (\w+)", (TOP / "crates" / LAWS / "specs" / "Lib.antt").read_text(), re.M)
-    names = [name for name in listed if name in wanted]
+    names = sorted(set().union(*(files_used(variant.law) for variant in found.values())))
     put_files(top, DEFINITIONS, names, {})
     errors, proved, output = check(top)
     print(f"{'proved' if proved else 'FAILED'}  {len(names)} files of laws under the definitions as they are")

@@ -27,8 +27,6 @@ use Rattle.std.proofs.Common.{ap, arith, inl, inr, refl, sym, ◌∙◌}
 use Rattle.std.proofs.lemmas.Bool.Decides.{nat_tests}
 use Rattle.std.specs.Prelude.{Bool, List, None, Option, Some, [], false, if◌then◌else◌, length, true, ℕ, ◌+◌, ◌<◌, ◌==◌, ◌∷◌, ◌≡◌, ◌≤◌, ◌⊎◌}
 
--- ---- the words
-
 -- ---- at most three for a place
 
 interrupt-length : (q : ℕ) (ms : List Msg) → AtMostInterrupt q ms → length ms ≤ 1

@@ -25,8 +25,6 @@ use Rattle.std.proofs.Common.{ap, inl, inr, refl, subst, sym, ◌∙◌}
 use Rattle.std.specs.List.{list_any}
 use Rattle.std.specs.Prelude.{List, [], cond, false, flat_map, map, not, ℕ, ◌&&◌, ◌++◌, ◌||◌, ◌∷◌, ◌≡◌}
 
--- ---- the words
-
 -- ---- reports
 
 behind : (xs ys zs : List Part) → SameButCounts ys zs → SameButCounts (xs ++ ys) (xs ++ zs)

@@ -33,6 +33,7 @@ wanted-fits a t c f e = f.changes t c (same (at a.threads t) ∙ e)
     same None = refl
     same (Some x) = refl
 
+-- ---- what a call decides
 fits-if : (b : Bool) (d e : Decision) → (b ≡ true → DecisionFits d) → (b ≡ false → DecisionFits e) → DecisionFits (cond b d e)
 fits-if true d e k l = k refl
 fits-if false d e k l = l refl

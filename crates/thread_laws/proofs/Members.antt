@@ -1,4 +1,4 @@
--- Which threads there are, each in its process, and what an event leaves of them.
+-- What a trap and what a message leave of the threads.
 use Rattle.thread_laws.specs.Members.{process_at, is_in, StaysOrGoes}
 use Rattle.hybrid_model.specs.Events.{of_thread}
 use Rattle.hybrid_model.specs.Globals.{is_number}

@@ -40,6 +40,7 @@ pub drops_frames : (n low : ℕ) (sp : Space) → (each_page drop_page n low sp)
 drops_frames zero low sp = refl
 drops_frames (suc n) low sp = drops_frames n (suc low) (drop_page low sp) ∙ drop_frames low sp
 
+-- ---- frames
 pub copies-insert : (f g : ℕ) (free : List ℕ) → copies f (insert_frame g free) ≡ copies f free + if_same f g
 copies-insert f g [] = omega arith
 copies-insert f g (k ∷ free) = go (nat_lt g k) (copies-insert f g free)

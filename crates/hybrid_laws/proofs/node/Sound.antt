@@ -118,6 +118,7 @@ module _ (a b : Node) (g : Goes a b) where
       count None = refl
       count (Some x) = refl
 
+-- ---- stopped threads, counted
 pub stopped-total : (m : Map Thread) → length (filter (λ (x : Thread). is_stopped x.does) (values m)) ≡ total stops m
 stopped-total m = go (entries m)
   where

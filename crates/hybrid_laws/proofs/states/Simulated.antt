@@ -1,4 +1,4 @@
--- An event on one process is simulated: the steps of its image may happen one after another from what the process shows, and the last leaves what it shows after.
+-- An event whose image is one step, or none, is simulated.
 use Rattle.hybrid_laws.specs.Simulated.{steps_after, steps_may, Simulated}
 use Rattle.kernel_model.specs.Steps as Steps
 use Rattle.hybrid_model.specs.Events.{after_here}

@@ -132,6 +132,7 @@ module _ (p : ℕ) (h : OneHere) (full : HereFull h) where
   step-full (Script k) = full
   step-full (End q) = (none-full, full.1)
 
+-- ---- all processes
 pub here-full : (one : OneKernel) → AllFull one → (p : ℕ) → HereFull (one_here one p)
 here-full one all p = (go (at one.own p) refl, tt)
   where
