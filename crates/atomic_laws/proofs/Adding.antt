@@ -1,6 +1,8 @@
 -- An instruction that stores into a doubleword only as an AMOADD.D leaves the old value and what it adds, modulo 2 ^ 64.
-use Rattle.atomic_laws.specs.Additions.{HasWholePages, IsAmoadd, IsDoubleword, IsMore, Writes, Nothing, Bytes, Atomic, added, am_writes, doubleword, form_writes, is_add, is_on, meets, only_adds, word_writes, writes}
+use Rattle.isa_model.specs.declared.atomics.AmOp.TheVariants as Ops
+use Rattle.isa_model.specs.declared.names.Op.TheVariants as Names
 use Rattle.atomic_laws.proofs.Doublewords.{number-other, number-own}
+use Rattle.atomic_laws.specs.Additions.{Atomic, Bytes, HasWholePages, IsAmoadd, IsDoubleword, IsMore, Nothing, Writes, added, am_writes, doubleword, form_writes, is_add, is_on, meets, only_adds, word_writes, writes}
 use Rattle.isa_model.specs.Arith.{add_of, store_size}
 use Rattle.isa_model.specs.Atomics.{AmIns, am_decoded, am_result, am_size, is_atomic}
 use Rattle.isa_model.specs.Decode.{decoded}
@@ -8,14 +10,12 @@ use Rattle.isa_model.specs.Instr.{Outcome, after_fetch, do_am, do_arith, do_atom
 use Rattle.isa_model.specs.Memory.{Memory, Page, fetched, first_lack, lacks, lacks_in, number_at, put_number, read_unless, stored_unless}
 use Rattle.isa_model.specs.Registers.{reg}
 use Rattle.isa_model.specs.declared.atomics.AmOp.{AmOp}
-use Rattle.isa_model.specs.declared.atomics.AmOp.TheVariants as Ops
-use Rattle.isa_model.specs.declared.forms.Form.{Form}
 use Rattle.isa_model.specs.declared.forms.Form.TheVariants.{B, I, J, R, S, U}
+use Rattle.isa_model.specs.declared.forms.Form.{Form}
 use Rattle.isa_model.specs.declared.names.Op.{Op}
-use Rattle.isa_model.specs.declared.names.Op.TheVariants as Names
 use Rattle.isa_model.specs.declared.stops.Lack.{Lack}
-use Rattle.isa_model.specs.declared.stops.Stop.{Stop}
 use Rattle.isa_model.specs.declared.stops.Stop.TheVariants.{Illegal, Misaligned, On, Fault as StopFault}
+use Rattle.isa_model.specs.declared.stops.Stop.{Stop}
 use Rattle.mck_word.specs.Maps.{at}
 use Rattle.mck_word.specs.declared.Access.TheVariants.{Read as ReadAccess, Write as WriteAccess, Exec as ExecAccess}
 use Rattle.mck_word.specs.declared.Regs.{Regs}

@@ -1,9 +1,10 @@
 -- Events of the two kernels, and stretches of journals: no addition to a doubleword is lost.
+use Rattle.kernel_model.specs.OneKernel as One
 use Rattle.atomic_laws.proofs.AddingSteps.{steps-add, whole-pages}
-use Rattle.atomic_laws.specs.Additions.{HasWholePages, OnlyAdds, IsDoubleword, IsMore, PagesWhole, adds, doubleword, doubleword_of, memory_of}
+use Rattle.atomic_laws.specs.Additions.{HasWholePages, IsDoubleword, IsMore, OnlyAdds, PagesWhole, adds, doubleword, doubleword_of, memory_of}
 use Rattle.hybrid_laws.proofs.boot.Coherent.{begins}
-use Rattle.hybrid_laws.proofs.journal.Journal.{each-event, follows}
 use Rattle.hybrid_laws.proofs.every.Lwk.{each-lwk}
+use Rattle.hybrid_laws.proofs.journal.Journal.{each-event, follows}
 use Rattle.hybrid_laws.proofs.journal.Still.{and-true}
 use Rattle.hybrid_laws.proofs.maps.Tests.{both}
 use Rattle.hybrid_model.specs.Boot.{boot}
@@ -22,15 +23,14 @@ use Rattle.isa_model.specs.Memory.{Memory, Page}
 use Rattle.job_model.specs.Prepared.{IsPrepared}
 use Rattle.job_model.specs.declared.image.Image.{Image}
 use Rattle.job_model.specs.declared.job.Job.{Job}
-use Rattle.kernel_model.specs.OneKernel as One
 use Rattle.kernel_model.specs.declared.steps.Step.{Step}
 use Rattle.mck_word.specs.EachLaws.{at-each, each-none}
 use Rattle.mck_word.specs.Maps.{at}
 use Rattle.std.proofs.Common.{ap, refl, subst, sym, ◌∙◌}
 use Rattle.std.specs.Prelude.{List, None, Option, Some, [], option_map, true, unwrap_or, ℕ, ◌++◌, ◌∷◌, ◌≡◌}
 use Rattle.work_laws.proofs.pages.Boot.{boot-full}
-use Rattle.work_laws.specs.WholePages.{Full, IsFull, AllFull}
 use Rattle.work_laws.proofs.pages.Steps.{after_all-full, here-full}
+use Rattle.work_laws.specs.WholePages.{AllFull, Full, IsFull}
 
 -- ---- a process's memory is the one that is shown
 shown-is : (pair : Pair) (p : ℕ) → memory_of (one pair) p ≡ memory_here (here pair p)

@@ -1,6 +1,6 @@
 -- Steps of the one-kernel machine one after another: a doubleword that only additions change has its old value and all that was added, modulo 2 ^ 64.
 use Rattle.atomic_laws.proofs.Adding.{instr-adds, more-none}
-use Rattle.atomic_laws.specs.Additions.{HasWholePages, OnlyAdds, IsDoubleword, IsMore, Leaves, StepOnlyAdds, added, adds, adds_in, changes_memory, concerns, doubleword, memory_of, next_writes}
+use Rattle.atomic_laws.specs.Additions.{HasWholePages, IsDoubleword, IsMore, Leaves, OnlyAdds, StepOnlyAdds, added, adds, adds_in, changes_memory, concerns, doubleword, memory_of, next_writes}
 use Rattle.hybrid_laws.proofs.trap.Says.{TrappedSays, trap-says}
 use Rattle.isa_model.specs.Instr.{instr}
 use Rattle.isa_model.specs.Memory.{Memory}
@@ -10,16 +10,16 @@ use Rattle.kernel_model.specs.OneKernel.{OneHere, OneKernel, Own, no_own, one_he
 use Rattle.kernel_model.specs.Steps.{after, after_all, after_here, answer_in, call_at, call_ended, has_call, interrupted_as, of_thread, one_changed, one_piece, one_trap, one_trapped, one_view, process_of_step, return_of, vm_finish, vm_finish_of}
 use Rattle.kernel_model.specs.Traps.{Begins, Changes, Done, Forks, Trapped, trap}
 use Rattle.kernel_model.specs.declared.Change.{Change}
-use Rattle.kernel_model.specs.declared.steps.Step.{Step}
 use Rattle.kernel_model.specs.declared.steps.Step.TheVariants.{Instr, Trap, Deliver, VmFinish, Piece, PieceFault, FileStep, Block, Wake, Return, Mark, Interrupted, Wait, Script, End}
+use Rattle.kernel_model.specs.declared.steps.Step.{Step}
 use Rattle.mck_word.specs.MapLaws.{at-put}
 use Rattle.mck_word.specs.Maps.{Map, at, put}
 use Rattle.mck_word.specs.declared.Tid.{Tid}
 use Rattle.std.proofs.Common.{ap, arith, refl, subst, sym, ◌∙◌}
 use Rattle.std.proofs.lemmas.Bool.Decides.{nat_tests}
 use Rattle.std.specs.Prelude.{Bool, List, None, Option, Some, [], cond, false, true, unwrap_or, ℕ, ℤ, ◌+◌, ◌==◌, ◌||◌, ◌∷◌, ◌≡◌, ◌≢◌}
-use Rattle.work_laws.specs.WholePages.{Full, IsFull, AllFull}
 use Rattle.work_laws.proofs.pages.Steps.{after-full, here-full}
+use Rattle.work_laws.specs.WholePages.{AllFull, Full, IsFull}
 
 pub whole-pages : (m : Memory) → Full m → HasWholePages m
 whole-pages m full i x e = subst IsFull e (full i)

@@ -1,8 +1,10 @@
 -- No ring is ever full. A ring to Linux has at most three messages for each of the sixteen places of threads, one Clear and one Answer for each worker;
 -- the ring to the lightweight kernel has at most a Reply for each place, one Ack and a Fault for each worker.
-use Rattle.guest_laws.specs.RingRoom.{RingsFit, FindsRoom}
+use Rattle.clear_rounds.specs.declared.Phase.TheVariants.{Posted as RoundPosted, Taken, Acked}
+use Rattle.clear_rounds.specs.declared.Phase.{Phase}
 use Rattle.guest_laws.proofs.Counting.{each-at, no-more-than, numbered-at, same-one, sum-at, sum-in, sum-ones, sum-threes, tally-sum}
 use Rattle.guest_laws.specs.Counting.{sum_below}
+use Rattle.guest_laws.specs.RingRoom.{FindsRoom, RingsFit}
 use Rattle.hybrid_laws.proofs.calls.Last.{workers-stay}
 use Rattle.hybrid_laws.proofs.rings.Placing.{EachNumbered-map}
 use Rattle.hybrid_model.specs.Claims.{Holds}
@@ -14,15 +16,13 @@ use Rattle.hybrid_model.specs.Rings.{ring}
 use Rattle.hybrid_model.specs.Sides.{Caller, Round, Side, state_in}
 use Rattle.hybrid_model.specs.Tallies.{Each, Reads, as_number, if_same, tally}
 use Rattle.hybrid_model.specs.declared.events.Event.{Event}
-use Rattle.clear_rounds.specs.declared.Phase.{Phase}
-use Rattle.clear_rounds.specs.declared.Phase.TheVariants.{Posted as RoundPosted, Taken, Acked}
 use Rattle.ikc_ring.specs.declared.Call.{Call}
-use Rattle.ikc_ring.specs.declared.Msg.{Msg}
 use Rattle.ikc_ring.specs.declared.Msg.TheVariants.{Request, Clear, Answer, Interrupt, Reply, Ack, Fault}
+use Rattle.ikc_ring.specs.declared.Msg.{Msg}
 use Rattle.kernel_model.specs.Nodes.{Node, Thread}
 use Rattle.mck_word.specs.Maps.{at}
-use Rattle.request_book.specs.declared.ReqState.{ReqState}
 use Rattle.request_book.specs.declared.ReqState.TheVariants.{Posted, Waiting, Held, Parked, Faulted, Ended, Replied}
+use Rattle.request_book.specs.declared.ReqState.{ReqState}
 use Rattle.std.proofs.Common.{ap, arith, inl, inr, refl, sym, ◌∙◌}
 use Rattle.std.proofs.lemmas.Bool.Decides.{nat_tests}
 use Rattle.std.specs.Prelude.{Bool, List, None, Option, Some, [], false, if◌then◌else◌, length, true, ℕ, ◌+◌, ◌<◌, ◌==◌, ◌∷◌, ◌≡◌, ◌≤◌, ◌⊎◌}

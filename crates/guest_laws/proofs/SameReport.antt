@@ -1,22 +1,22 @@
 -- Two journals of one job whose images are the same steps have the same report, but for the counts of requests, faults and rounds.
-use Rattle.guest_laws.specs.SameReport.{SameButCounts, EndAlike}
+use Rattle.kernel_model.specs.OneKernel as One
+use Rattle.guest_laws.specs.SameReport.{EndAlike, SameButCounts}
 use Rattle.hybrid_laws.proofs.boot.Coherent.{begins}
-use Rattle.hybrid_laws.proofs.journal.Journal.{each-event, headline}
 use Rattle.hybrid_laws.proofs.every.Lwk.{each-lwk}
+use Rattle.hybrid_laws.proofs.journal.Journal.{each-event, headline}
 use Rattle.hybrid_model.specs.Boot.{boot}
 use Rattle.hybrid_model.specs.Claims.{Headline}
 use Rattle.hybrid_model.specs.Events.{may}
 use Rattle.hybrid_model.specs.Journals.{IsLegal, IsOver, candidates, ending, ending_of_run, images, state}
 use Rattle.hybrid_model.specs.Pairs.{Pair}
 use Rattle.hybrid_model.specs.Shown.{one}
-use Rattle.hybrid_model.specs.declared.events.Ending.{Ending}
 use Rattle.hybrid_model.specs.declared.events.Ending.TheVariants.{Done, Limit, Stalled, Unfinished}
+use Rattle.hybrid_model.specs.declared.events.Ending.{Ending}
 use Rattle.hybrid_model.specs.declared.events.Event.{Event}
 use Rattle.job_model.specs.Prepared.{IsPrepared}
 use Rattle.job_model.specs.declared.image.Image.{Image}
 use Rattle.job_model.specs.declared.job.Job.{Job}
 use Rattle.kernel_model.specs.Nodes.{Node, Process, Thread, has_ended, is_living, ready_to_run}
-use Rattle.kernel_model.specs.OneKernel as One
 use Rattle.kernel_model.specs.Steps.{after_all}
 use Rattle.mck_word.specs.Maps.{each_row, entries, some_row}
 use Rattle.run_model.specs.Reports.{count_lines, faults, guest_line, output_lines, path_lines, paths_in_order, report_of, report_parts, requests, rounds, unsent_line}

@@ -1,11 +1,10 @@
 -- Reports that are the same line for line, but for the counts of requests, faults and rounds.
 use Rattle.hybrid_model.specs.Boot.{boot}
-use Rattle.hybrid_model.specs.Journals.{ending, images, state}
-use Rattle.hybrid_model.specs.Shown.{one}
+use Rattle.hybrid_model.specs.Journals.{ending, state}
 use Rattle.hybrid_model.specs.declared.events.Event.{Event}
 use Rattle.job_model.specs.declared.image.Image.{Image}
 use Rattle.job_model.specs.declared.job.Job.{Job}
-use Rattle.run_model.specs.Reports.{count_line, faults, requests, rounds}
+use Rattle.run_model.specs.Reports.{count_line}
 use Rattle.run_model.specs.Texts.{Part}
 use Rattle.std.specs.Prelude.{List, [], codes, ℕ, ◌∷◌, ◌≡◌, ◌⊎◌}
 

@@ -1,8 +1,8 @@
 //! The laws of whole states and journals.
 
+ghost use Rattle.hybrid_laws.specs.EventKinds.{is_of_linux};
 ghost use Rattle.hybrid_laws.specs.Journals.{Follows};
 ghost use Rattle.hybrid_laws.specs.Lasting.{Lasting};
-ghost use Rattle.hybrid_laws.specs.EventKinds.{is_of_linux};
 ghost use Rattle.hybrid_model.specs.Boot.{boot, shortage};
 ghost use Rattle.hybrid_model.specs.Claims.{Headline, Holds, NoAddedStall};
 ghost use Rattle.hybrid_model.specs.Events.{may};

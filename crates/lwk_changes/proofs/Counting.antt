@@ -1,6 +1,6 @@
 -- Present pages of a range, counted from a page on.
-use Rattle.hybrid_laws.proofs.memory.Effects.{count-inside, inside}
 use Rattle.hybrid_laws.proofs.maps.Sums.{counted_at, total-cut-by}
+use Rattle.hybrid_laws.proofs.memory.Effects.{count-inside, inside}
 use Rattle.hybrid_laws.proofs.memory.Written.{each-entry}
 use Rattle.hybrid_model.specs.Tallies.{Each}
 use Rattle.isa_model.specs.Memory.{Memory, Page}

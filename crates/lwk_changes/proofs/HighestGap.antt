@@ -1,7 +1,7 @@
 -- The highest gap between the pages that are present is the definition's.
-use Rattle.hybrid_laws.proofs.trap.DecideSays.{count-none}
 use Rattle.hybrid_laws.proofs.maps.Lookups.{each-at}
 use Rattle.hybrid_laws.proofs.maps.Reading.{Each-map}
+use Rattle.hybrid_laws.proofs.trap.DecideSays.{count-none}
 use Rattle.hybrid_model.specs.Tallies.{Each}
 use Rattle.isa_model.specs.Memory.{Memory, Page}
 use Rattle.kernel_model.specs.MemoryCalls.{count_present, gap_below, gap_ends, highest_gap, is_gap}

@@ -1,7 +1,7 @@
 -- What a change of a space needs, from what its go-ahead says.
-use Rattle.hybrid_laws.proofs.trap.DecideSays.{count-none}
 use Rattle.hybrid_laws.proofs.memory.Dropping.{shown_drops, shown_space}
 use Rattle.hybrid_laws.proofs.memory.Effects.{drops-none, length-dropped}
+use Rattle.hybrid_laws.proofs.trap.DecideSays.{count-none}
 use Rattle.hybrid_model.specs.Sides.{Row}
 use Rattle.hybrid_model.specs.Spaces.{Space, drop_page, shown_memory, shown_row}
 use Rattle.kernel_model.specs.MemoryCalls.{all_present, count_present, exceeds}

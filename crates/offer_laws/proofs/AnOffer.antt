@@ -4,8 +4,8 @@ use Rattle.hybrid_model.specs.Journals.{candidates, ending, ending_of_run, event
 use Rattle.hybrid_model.specs.Pairs.{Pair}
 use Rattle.hybrid_model.specs.Tallies.{Each}
 use Rattle.hybrid_model.specs.declared.events.Ending.TheVariants.{Unfinished}
-use Rattle.hybrid_model.specs.declared.events.Event.{Event}
 use Rattle.hybrid_model.specs.declared.events.Event.TheVariants.{Run, Trap, Deliver, Intake, Answer, BeginVm, Interrupt, Wait, Reap, Assign, Miss, Pin, Copy, Unpin, Act, Park, Finish, AckClear}
+use Rattle.hybrid_model.specs.declared.events.Event.{Event}
 use Rattle.mck_word.specs.Identifiers.{pid, tid}
 use Rattle.mck_word.specs.Lists.{count_from}
 use Rattle.mck_word.specs.Maps.{at}
@@ -13,8 +13,8 @@ use Rattle.offer_laws.proofs.Each.{any-none, each-all, each-kept, each-map, each
 use Rattle.offer_laws.proofs.NoOffer.{no-offer-ends}
 use Rattle.offer_laws.proofs.Silence.{IsSilent, NoneMay, OffersNone, ProcessSilent, actors-whole, answers, assigns, begins, candidates-parts, chosen-none, fetches, interrupts, kernel-whole, lines, linux-whole, process-parts, processes, run-more, threads, unparks, waits}
 use Rattle.run_model.specs.Walks.{Chosen, actors, actors_of_process, all_workers, core_event, core_offer, first_chosen, first_event, is_above_last, kernel_offer, linux_offer, offer, run_of, thread_numbers, worker_offer}
-use Rattle.run_model.specs.declared.actors.Actor.{Actor}
 use Rattle.run_model.specs.declared.actors.Actor.TheVariants.{Core, Worker}
+use Rattle.run_model.specs.declared.actors.Actor.{Actor}
 use Rattle.std.proofs.Common.{ap, arith, refl, subst, sym, ◌∙◌}
 use Rattle.std.proofs.lemmas.Bool.Decides.{nat_tests}
 use Rattle.std.proofs.lemmas.List.Elements.{All-contains, All-from_recursion}

@@ -1,19 +1,19 @@
 -- The memory of each process stays within its bounds: where its heap begins, and what the changes that wait for their rounds map.
-use Rattle.offer_laws.specs.ChangeFits.{ChangeFits, wanted, NodeFits, DecisionFits}
 use Rattle.file_model.specs.Errno.{EINVAL, ENOMEM}
-use Rattle.hybrid_laws.proofs.trap.DecideSays.{found-test}
 use Rattle.hybrid_laws.proofs.maps.Tests.{both}
+use Rattle.hybrid_laws.proofs.trap.DecideSays.{found-test}
 use Rattle.isa_model.specs.Memory.{Memory}
 use Rattle.job_model.specs.Images.{highest}
 use Rattle.kernel_model.specs.MemoryCalls.{Reply as DecidedReply, Round as DecidedRound, Decision, Now, all_present, any_lessened, brk, brk_down, brk_up, count_present, decide, exceeds, gap_below, gap_ends, highest_gap, highest_gap_end, is_aligned, is_fixed, is_gap, is_inside, low_word, lowest_address, map_anywhere, map_fixed, mmap, most_heap, mprotect, munmap, no_page_in, pages_for, protect_range, range_for, refuse, rights_of_prot, round_or_now}
 use Rattle.kernel_model.specs.Nodes.{Node, Process, Thread, change_in, no_process, no_thread, process_of, thread_of}
 use Rattle.kernel_model.specs.Pages.{page_end, page_number, pages_count, range}
-use Rattle.kernel_model.specs.declared.Change.{Change}
 use Rattle.kernel_model.specs.declared.Change.TheVariants.{Brk, Map as ChangeMap, Protect, Unmap}
+use Rattle.kernel_model.specs.declared.Change.{Change}
 use Rattle.mck_flags.specs.declared.rights.Rights.{Rights}
 use Rattle.mck_word.specs.Maps.{at}
 use Rattle.mck_word.specs.Words.{has_bit}
 use Rattle.mck_word.specs.declared.PageRange.{PageRange}
+use Rattle.offer_laws.specs.ChangeFits.{ChangeFits, DecisionFits, NodeFits, wanted}
 use Rattle.std.proofs.Common.{arith, refl, ◌∙◌}
 use Rattle.std.proofs.lemmas.Bool.Decides.{nat_tests}
 use Rattle.std.specs.Prelude.{Bool, None, Option, Some, cond, false, get_or, List, nat_le, nat_lt, not, pos, true, unwrap_or, ℕ, ◌%◌, ◌&&◌, ◌*◌, ◌+◌, ◌==◌, ◌^◌, ◌||◌, ◌≡◌, ◌≤◌}

@@ -1,4 +1,5 @@
 -- Each event keeps heaps low, and lets a thread wait for a change only where it fits.
+use Rattle.hybrid_model.specs.declared.events.Event.TheVariants as Events
 use Rattle.file_model.specs.Errno.{EAGAIN, EINVAL, ENOMEM, ENOSYS}
 use Rattle.file_model.specs.Files.{close_all}
 use Rattle.hybrid_laws.proofs.calls.Closed.{calls-closed, deliver-closed, finishes-closed, for_process-closed, moved-closed, raised-closed, returns-closed, script-closed, wait_over-closed}
@@ -6,7 +7,6 @@ use Rattle.hybrid_model.specs.Events.{ack_clear, act_file, after_here, copy, fet
 use Rattle.hybrid_model.specs.Lwk.{after_deliver, after_trap, begin_round, begin_vm_of, caller_of, change_made_of, changed, changing_thread, intake, interrupt_as, is_calling, memory_here, post_answer, post_interrupt, reap, round_over, run, run_for, set_break, take_ack, take_fault, take_reply, take_reply_of, trapped, view_here}
 use Rattle.hybrid_model.specs.Pairs.{Here, with_side}
 use Rattle.hybrid_model.specs.Rings.{ring}
-use Rattle.hybrid_model.specs.declared.events.Event.TheVariants as Events
 use Rattle.hybrid_model.specs.declared.events.Event.{Event}
 use Rattle.ikc_ring.specs.declared.Msg.TheVariants.{Ack, Answer, Clear, Fault, Interrupt, Reply, Request}
 use Rattle.ikc_ring.specs.declared.Msg.{Msg}
@@ -32,9 +32,9 @@ use Rattle.mck_word.specs.Words.{has_bit, little_endian, refused}
 use Rattle.mck_word.specs.declared.Access.TheVariants.{Write}
 use Rattle.mck_word.specs.declared.Regs.{Regs}
 use Rattle.offer_laws.proofs.ChangeFits.{decide-fits, low-heap}
-use Rattle.offer_laws.specs.ChangeFits.{ChangeFits, DecisionFits, NodeFits, wanted}
 use Rattle.offer_laws.proofs.MemoryRests.{calls-rest, deliver-same, finishes-rests, raised-rests, returns-rests, wait_over-rests}
 use Rattle.offer_laws.proofs.MemoryStays.{HeapsFit, Stays, Waits, answered-rests, own-wants, process-stays, put-waits, quiet-wants, same-waits, stays-closed, wants}
+use Rattle.offer_laws.specs.ChangeFits.{ChangeFits, DecisionFits, NodeFits, wanted}
 use Rattle.std.proofs.Common.{ap, arith, refl, subst, sym, ◌∙◌}
 use Rattle.std.proofs.lemmas.Bool.Decides.{nat_tests}
 use Rattle.std.specs.Prelude.{Bool, List, None, Option, Some, [], cond, false, filter, get_or, length, nat_le, nat_lt, not, option_map, pos, suc, true, zero, ℕ, ℤ, ◌+◌, ◌==◌, ◌∷◌, ◌≡◌, ◌≤◌}

@@ -4,8 +4,8 @@ use Rattle.hybrid_model.specs.Journals.{candidates, ending, ending_of_run, event
 use Rattle.hybrid_model.specs.Pairs.{Pair, here}
 use Rattle.hybrid_model.specs.Tallies.{Each}
 use Rattle.hybrid_model.specs.declared.events.Ending.TheVariants.{Done, Limit, Stalled, Unfinished}
-use Rattle.hybrid_model.specs.declared.events.Event.{Event}
 use Rattle.hybrid_model.specs.declared.events.Event.TheVariants.{Trap, Deliver, Intake, Answer, BeginVm, Interrupt, Wait, Reap, Assign, Miss, Pin, Copy, Unpin, Act, Park, Finish, AckClear}
+use Rattle.hybrid_model.specs.declared.events.Event.{Event}
 use Rattle.kernel_model.specs.Nodes.{Process, has_ended, has_process, is_ended, thread_of}
 use Rattle.mck_word.specs.Identifiers.{pid, tid}
 use Rattle.mck_word.specs.Lists.{count_from, member}

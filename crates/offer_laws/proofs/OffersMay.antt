@@ -1,14 +1,14 @@
 -- What an actor offers may happen: it is the first of a list that passes the test, or a core's offer for one of its threads.
 use Rattle.hybrid_model.specs.Events.{may}
 use Rattle.hybrid_model.specs.Pairs.{Pair}
-use Rattle.hybrid_model.specs.declared.events.Event.{Event}
 use Rattle.hybrid_model.specs.declared.events.Event.TheVariants.{Trap, Deliver, Intake, Reap, Miss, Pin, Copy, Unpin, Act, Park, Finish, AckClear}
+use Rattle.hybrid_model.specs.declared.events.Event.{Event}
 use Rattle.mck_word.specs.Identifiers.{pid, tid}
 use Rattle.mck_word.specs.Maps.{at, keys}
 use Rattle.offer_laws.proofs.Silence.{answers, assigns, begins, fetches, interrupts, lines, unparks, waits}
 use Rattle.run_model.specs.Walks.{core_event, core_offer, first_event, first_that_may, is_above_last, offer, run_of}
-use Rattle.run_model.specs.declared.actors.Actor.{Actor}
 use Rattle.run_model.specs.declared.actors.Actor.TheVariants.{Core, Kernel, Linux, Worker, Script as ScriptActor}
+use Rattle.run_model.specs.declared.actors.Actor.{Actor}
 use Rattle.std.proofs.Common.{arith, refl, subst}
 use Rattle.std.specs.Prelude.{Bool, List, None, Option, Some, [], cond, false, filter, find, true, ℕ, ◌%◌, ◌++◌, ◌==◌, ◌∷◌, ◌≡◌}
 

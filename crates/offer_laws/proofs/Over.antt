@@ -10,8 +10,8 @@ use Rattle.hybrid_model.specs.Pairs.{Pair, here, side_of}
 use Rattle.hybrid_model.specs.Rings.{ring}
 use Rattle.hybrid_model.specs.Sides.{state_in, state_of}
 use Rattle.hybrid_model.specs.Tallies.{Each}
-use Rattle.hybrid_model.specs.declared.events.Event.{Event}
 use Rattle.hybrid_model.specs.declared.events.Event.TheVariants.{Run, Trap, Deliver, Intake, Answer, BeginVm, Interrupt, Wait, Reap, Script, Fetch, Assign, Miss, Pin, Copy, Unpin, Act, Park, Unpark, Finish, AckClear}
+use Rattle.hybrid_model.specs.declared.events.Event.{Event}
 use Rattle.ikc_ring.specs.declared.Call.{Call}
 use Rattle.ikc_ring.specs.declared.Msg.{Msg}
 use Rattle.kernel_model.specs.Nodes.{ScriptLine, has_thread, is_there, thread_of}

@@ -3,8 +3,8 @@ use Rattle.hybrid_model.specs.Events.{may}
 use Rattle.hybrid_model.specs.Journals.{candidates, events_of_process, events_of_thread, events_of_worker}
 use Rattle.hybrid_model.specs.Pairs.{Pair, side_of}
 use Rattle.hybrid_model.specs.Tallies.{Each}
-use Rattle.hybrid_model.specs.declared.events.Event.{Event}
 use Rattle.hybrid_model.specs.declared.events.Event.TheVariants.{Run, Intake, Answer, BeginVm, Interrupt, Wait, Reap, Script, Fetch, Assign, Unpark, AckClear}
+use Rattle.hybrid_model.specs.declared.events.Event.{Event}
 use Rattle.kernel_model.specs.Nodes.{ScriptLine, instructions_in_all, is_there, thread_of}
 use Rattle.kernel_model.specs.Traps.{may_run}
 use Rattle.mck_word.specs.Identifiers.{pid, req, tid}
@@ -12,8 +12,8 @@ use Rattle.mck_word.specs.Lists.{count_from}
 use Rattle.mck_word.specs.Maps.{keys}
 use Rattle.offer_laws.proofs.Each.{each-flat, each-flattened, each-join, each-parts}
 use Rattle.run_model.specs.Walks.{Chosen, actors, actors_of_process, all_workers, first_chosen, offer, run_of, thread_numbers}
-use Rattle.run_model.specs.declared.actors.Actor.{Actor}
 use Rattle.run_model.specs.declared.actors.Actor.TheVariants.{Core, Script as ScriptActor}
+use Rattle.run_model.specs.declared.actors.Actor.{Actor}
 use Rattle.std.proofs.Common.{ap, arith, refl, ◌∙◌}
 use Rattle.std.proofs.lemmas.Bool.Decides.{nat_tests}
 use Rattle.std.specs.Prelude.{Bool, List, None, Option, Some, [], false, flat_map, map, min, nat_le, true, ℕ, ◌%◌, ◌&&◌, ◌++◌, ◌-◌, ◌==◌, ◌∷◌, ◌≡◌}

@@ -1,7 +1,7 @@
 -- What no event changes: the numbers of cores, workers and rings, the limit of instructions and the number of frames. And a process begins only where there are fewer than most.
 use Rattle.hybrid_model.specs.declared.events.Event.TheVariants as Events
-use Rattle.file_model.specs.Files.{close_all}
 use Rattle.file_model.specs.Errno.{EAGAIN, EINVAL, ENOMEM}
+use Rattle.file_model.specs.Files.{close_all}
 use Rattle.hybrid_laws.proofs.calls.Closed.{Closed, calls-closed, deliver-closed, finishes-closed, for_process-closed, moved-closed, raised-closed, returns-closed, script-closed, wait_over-closed}
 use Rattle.hybrid_laws.proofs.node.Goes.{ignored-goes, wake-goes}
 use Rattle.hybrid_model.specs.Events.{ack_clear, act_file, after_here, copy, fetch_from, finish_here, miss, park_here, unpark_here}
@@ -9,12 +9,12 @@ use Rattle.hybrid_model.specs.Lwk.{after_deliver, after_trap, begin_round, begin
 use Rattle.hybrid_model.specs.Pairs.{Here, with_side}
 use Rattle.hybrid_model.specs.Rings.{ring}
 use Rattle.hybrid_model.specs.declared.events.Event.{Event}
-use Rattle.ikc_ring.specs.declared.Msg.{Msg}
 use Rattle.ikc_ring.specs.declared.Msg.TheVariants.{Ack, Answer, Clear, Fault, Interrupt, Reply, Request}
+use Rattle.ikc_ring.specs.declared.Msg.{Msg}
 use Rattle.isa_model.specs.Memory.{may_access}
 use Rattle.isa_model.specs.Registers.{reg}
-use Rattle.isa_model.specs.declared.stops.Stop.{Stop}
 use Rattle.isa_model.specs.declared.stops.Stop.TheVariants.{Break, Ecall, Illegal, Misaligned, On, Fault as StopFault}
+use Rattle.isa_model.specs.declared.stops.Stop.{Stop}
 use Rattle.kernel_model.specs.Calls.{local_call, one_of_calls}
 use Rattle.kernel_model.specs.CloneCalls.{CallDone, are_clone_flags, are_fork_flags, clone, clone_or_fork, cloned_thread, clones, forks, with_thread}
 use Rattle.kernel_model.specs.LocalCalls.{refuses, wake}

@@ -1,5 +1,4 @@
 -- What a legal journal of a prepared job keeps small: cores, workers and rings, the processes, the limit, and with it every number that is given; where heaps begin, and what changes map.
-use Rattle.offer_laws.specs.Small.{Small, NumbersFit}
 use Rattle.hybrid_model.specs.declared.events.Event.TheVariants as Events
 use Rattle.hybrid_laws.proofs.calls.Last.{born-is}
 use Rattle.hybrid_laws.proofs.every.Event.{whole_event}
@@ -28,6 +27,7 @@ use Rattle.offer_laws.proofs.MemoryBoot.{boot-fits}
 use Rattle.offer_laws.proofs.MemoryEvents.{fits-stay}
 use Rattle.offer_laws.proofs.Rows.{count-none, count-put, count-same, count-stays}
 use Rattle.offer_laws.proofs.Sizes.{TrapLeaves, limit-stays, sizes, sizes-stay, trap-leaves}
+use Rattle.offer_laws.specs.Small.{NumbersFit, Small}
 use Rattle.std.proofs.Common.{ap, arith, refl, subst, sym, ◌∙◌}
 use Rattle.std.proofs.lemmas.Bool.Decides.{nat_tests}
 use Rattle.std.specs.Prelude.{Bool, cond, false, ◌==◌, List, None, Option, Some, [], is_some, length, true, unwrap_or, ℕ, ◌+◌, ◌-◌, ◌<◌, ◌∷◌, ◌≡◌, ◌≤◌, ◌^◌}

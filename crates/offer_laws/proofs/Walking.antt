@@ -11,12 +11,12 @@ use Rattle.job_model.specs.Prepared.{IsPrepared}
 use Rattle.job_model.specs.declared.image.Image.{Image}
 use Rattle.job_model.specs.declared.job.Job.{Job}
 use Rattle.offer_laws.proofs.AnOffer.{none-at-end}
-use Rattle.offer_laws.proofs.Each.{each-parts, each-join}
+use Rattle.offer_laws.proofs.Each.{each-join, each-parts}
 use Rattle.offer_laws.proofs.NoOffer.{none-ends}
 use Rattle.offer_laws.proofs.OffersMay.{offer-may}
-use Rattle.offer_laws.proofs.Small.{coherent-journal}
 use Rattle.offer_laws.proofs.Over.{end-is-over}
 use Rattle.offer_laws.proofs.Silence.{OffersNone, chosen-none, none-chosen}
+use Rattle.offer_laws.proofs.Small.{coherent-journal}
 use Rattle.run_model.specs.Walks.{Chosen, IsWalked, Walker, actors, behind, chosen_by, first_chosen, in_turn, is_same_actor, moved, next_by_word, next_choice, offer, start, walk_for}
 use Rattle.run_model.specs.declared.actors.Actor.{Actor}
 use Rattle.std.proofs.Common.{ap, arith, refl, subst, sym, ◌∙◌}

@@ -2,8 +2,8 @@
 use Rattle.job_model.specs.Images.{highest}
 use Rattle.kernel_model.specs.MemoryCalls.{Reply as DecidedReply, Round as DecidedRound, Decision, Now}
 use Rattle.kernel_model.specs.Nodes.{Node, Process, Thread, change_in}
-use Rattle.kernel_model.specs.declared.Change.{Change}
 use Rattle.kernel_model.specs.declared.Change.TheVariants.{Brk, Map as ChangeMap, Protect, Unmap}
+use Rattle.kernel_model.specs.declared.Change.{Change}
 use Rattle.mck_word.specs.Maps.{Map, at}
 use Rattle.std.specs.Prelude.{None, Option, Some, ℕ, ◌^◌, ◌≡◌, ◌≤◌}
 

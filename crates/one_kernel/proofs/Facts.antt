@@ -1,7 +1,7 @@
 -- What holds of a state that the two kernels show.
 use Rattle.file_calls.specs.FileSteps.{FewCalls}
-use Rattle.hybrid_laws.proofs.reap.Reap.{count-each}
 use Rattle.hybrid_laws.proofs.maps.Totals.{entries-least}
+use Rattle.hybrid_laws.proofs.reap.Reap.{count-each}
 use Rattle.hybrid_model.specs.Shown.{one, shown_call, shown_own}
 use Rattle.hybrid_model.specs.Sides.{Caller, Side, new_side}
 use Rattle.hybrid_model.specs.Spaces.{shown_row}

@@ -1,4 +1,5 @@
 -- No description is held by too many calls: each is of a caller, a process has fewer callers than numbers were given, and there are few processes.
+use Rattle.std.specs.FinMap as finmap
 use Rattle.file_calls.specs.FileSteps.{FewCalls}
 use Rattle.hybrid_laws.proofs.maps.Reading.{Each-map}
 use Rattle.hybrid_laws.proofs.memory.Written.{each-entry}
@@ -12,7 +13,6 @@ use Rattle.mck_word.specs.MapLaws.{at-put}
 use Rattle.mck_word.specs.Maps.{Map, at, count, entries, no_rows, put}
 use Rattle.offer_laws.proofs.Rows.{count-fewer, count-none, count-put, count-same}
 use Rattle.offer_laws.specs.Small.{Small}
-use Rattle.std.specs.FinMap as finmap
 use Rattle.std.proofs.Common.{ap, arith, refl, subst, sym, ◌∙◌}
 use Rattle.std.proofs.lemmas.Bool.Decides.{nat_tests}
 use Rattle.std.proofs.lemmas.List.Sums.{count_by-le-length, sum_by-cons}

@@ -1,4 +1,5 @@
 -- When an event of the Linux side may happen: its process has a row, and it may happen there.
+use Rattle.hybrid_model.specs.declared.events.Event.TheVariants as Events
 use Rattle.file_model.specs.Files.{Files}
 use Rattle.hybrid_laws.specs.EventKinds.{is_of_linux}
 use Rattle.hybrid_model.specs.Events.{may, may_here, process_of_event}
@@ -6,7 +7,6 @@ use Rattle.hybrid_model.specs.Globals.{Coherent}
 use Rattle.hybrid_model.specs.Pairs.{here}
 use Rattle.hybrid_model.specs.Sides.{Row}
 use Rattle.hybrid_model.specs.declared.events.Event.{Event}
-use Rattle.hybrid_model.specs.declared.events.Event.TheVariants as Events
 use Rattle.kernel_model.specs.Nodes.{Node, is_there}
 use Rattle.lwk_node.specs.Shown.{node_of}
 use Rattle.mck_word.specs.Maps.{Map, at}

@@ -1,11 +1,11 @@
 -- A stopped thread may fall asleep: it sleeps nowhere, and those of its process that sleep at an address have places other than its own.
 use Rattle.file_model.specs.Files.{Files}
 use Rattle.guest_laws.proofs.Counting.{no-more-than}
+use Rattle.hybrid_laws.proofs.maps.Reading.{Each-both, Each-map}
+use Rattle.hybrid_laws.proofs.maps.Tests.{both}
 use Rattle.hybrid_laws.proofs.node.Goes.{SleeperIs, each-passes, tally-filter}
 use Rattle.hybrid_laws.proofs.node.LocalKeeps.{Each-filter}
-use Rattle.hybrid_laws.proofs.maps.Reading.{Each-both, Each-map}
 use Rattle.hybrid_laws.proofs.node.Sound.{is-awake, sleep-once, sleepers-are}
-use Rattle.hybrid_laws.proofs.maps.Tests.{both}
 use Rattle.hybrid_laws.proofs.node.Threads.{thread-is}
 use Rattle.hybrid_laws.proofs.trap.Begins.{may-traps}
 use Rattle.hybrid_model.specs.Globals.{Places, Sleeping}

@@ -1,4 +1,6 @@
 -- The numbers above one in a rising list, as the keys of a map are.
+use Rattle.std.specs.FinMap as finmap
+use Rattle.std.specs.FinMap.Entries as fin
 use Rattle.hybrid_laws.proofs.maps.Tests.{both}
 use Rattle.hybrid_model.specs.Tallies.{Each}
 use Rattle.mck_word.specs.Maps.{Map, entries, keys}
@@ -7,8 +9,6 @@ use Rattle.pair_offers.specs.Seeking.{next_such}
 use Rattle.run_model.specs.Walks.{is_above_last}
 use Rattle.std.proofs.Common.{ap, arith, refl, subst, sym, ◌∙◌}
 use Rattle.std.proofs.lemmas.Bool.Decides.{nat_tests}
-use Rattle.std.specs.FinMap as finmap
-use Rattle.std.specs.FinMap.Entries as fin
 use Rattle.std.specs.Ordering.{is_lt, nat_cmp}
 use Rattle.std.specs.Prelude.{Bool, IfSome, List, None, Option, Some, T, [], cond, false, filter, find, map, min, nat_le, nat_lt, option_map, true, ℕ, ◌&&◌, ◌+◌, ◌<◌, ◌≡◌, ◌≤◌, ◌∷◌}
 

@@ -1,8 +1,9 @@
 -- A message may end the thread that gets its answer, where its process doesn't live; and the end of a process ends its threads.
+use Rattle.hybrid_laws.proofs.intake.Reply as reply
+use Rattle.file_model.specs.Errno.{EINTR, EPIPE}
 use Rattle.file_model.specs.Files.{close_all}
 use Rattle.hybrid_laws.proofs.calls.Closed.{finishes-closed, returns-closed}
 use Rattle.hybrid_laws.proofs.intake.Ack.{AckStands, ack-stands}
-use Rattle.hybrid_laws.proofs.intake.Reply as reply
 use Rattle.hybrid_laws.proofs.node.Primitives.{at-change}
 use Rattle.hybrid_laws.proofs.node.Threads.{thread-is}
 use Rattle.hybrid_model.specs.Coherence.{OfProcess}
@@ -22,11 +23,10 @@ use Rattle.mck_word.specs.declared.Req.{Req}
 use Rattle.std.proofs.Common.{ap, arith, refl, subst, sym, ◌∙◌}
 use Rattle.std.proofs.lemmas.Bool.Decides.{nat_tests}
 use Rattle.std.specs.Prelude.{Bool, List, None, Option, Some, [], cond, false, filter, length, not, option_map, true, unwrap_or, ℕ, ℤ, ◌&&◌, ◌==◌, ◌∷◌, ◌≡◌}
-use Rattle.file_model.specs.Errno.{EINTR, EPIPE}
 use Rattle.thread_laws.proofs.Members.{IntakeThreads, OnlyOwn}
-use Rattle.thread_laws.specs.Members.{SameThreads, answered_by, is_in, outside, process_at, process_in, thread_answered}
 use Rattle.thread_laws.proofs.Others.{answered-same, sent_back-same}
 use Rattle.thread_laws.proofs.Stays.{either-same, for_process-same, for_thread-same, joined-same, none-left, own-closed}
+use Rattle.thread_laws.specs.Members.{SameThreads, answered_by, is_in, outside, process_at, process_in, thread_answered}
 
 -- ---- a thread gets its answer
 -- it alone is gone, where its process doesn't live

@@ -15,9 +15,9 @@ use Rattle.std.proofs.lemmas.Bool.Decides.{nat_tests}
 use Rattle.std.specs.Prelude.{Bool, None, Option, Some, cond, false, is_some, not, true, ℕ, ◌&&◌, ◌==◌, ◌≡◌}
 use Rattle.thread_laws.proofs.Ends.{intake-threads, reap-threads}
 use Rattle.thread_laws.proofs.Members.{IntakeThreads, TrapThreads}
-use Rattle.thread_laws.specs.Members.{SameThreads, StaysOrGoes, keeps_threads, outside, process_at, process_in, thread_answered}
 use Rattle.thread_laws.proofs.Others.{others-same}
 use Rattle.thread_laws.proofs.Trapping.{trap-threads}
+use Rattle.thread_laws.specs.Members.{SameThreads, StaysOrGoes, keeps_threads, outside, process_at, process_in, thread_answered}
 
 pub other-keeps : (pair : Pair) (e : Event) → keeps_threads e ≡ true → SameThreads pair.node (after pair e).node
 other-keeps pair e k = let p = process_of_event pair.node e in others-same e k p (here pair p)

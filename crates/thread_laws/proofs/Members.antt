@@ -1,9 +1,9 @@
 -- What a trap and what a message leave of the threads.
-use Rattle.thread_laws.specs.Members.{process_at, is_in, StaysOrGoes}
 use Rattle.hybrid_model.specs.Events.{of_thread}
 use Rattle.hybrid_model.specs.Globals.{is_number}
 use Rattle.kernel_model.specs.Nodes.{Node, is_living}
 use Rattle.std.specs.Prelude.{None, Option, Some, cond, false, not, true, ℕ, ◌&&◌, ◌==◌, ◌||◌, ◌≡◌}
+use Rattle.thread_laws.specs.Members.{StaysOrGoes, is_in, process_at}
 
 -- the same threads, but that t may be gone
 pub record OnlyOwn (t : ℕ) (before after : Node) : Type 0 where

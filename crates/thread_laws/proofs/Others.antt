@@ -1,9 +1,10 @@
 -- Each event but Trap, Intake and Reap leaves the same threads in the same processes.
+use Rattle.hybrid_model.specs.declared.events.Event.TheVariants as Events
+use Rattle.file_model.specs.Errno.{ECHILD, EFAULT}
 use Rattle.hybrid_model.specs.Events.{ack_clear, act_file, after_here, copy, fetch_from, finish_here, miss, park_here, unpark_here}
 use Rattle.hybrid_model.specs.Lwk.{after_deliver, begin_round, begin_vm_of, interrupt_as, is_calling, memory_here, post_answer, post_interrupt, run, run_for, view_here}
 use Rattle.hybrid_model.specs.Pairs.{Here}
 use Rattle.hybrid_model.specs.Rings.{ring}
-use Rattle.hybrid_model.specs.declared.events.Event.TheVariants as Events
 use Rattle.hybrid_model.specs.declared.events.Event.{Event}
 use Rattle.ikc_ring.specs.declared.Msg.{Msg}
 use Rattle.isa_model.specs.Instr.{Outcome, instr}
@@ -17,15 +18,14 @@ use Rattle.kernel_model.specs.Traps.{Ran, called_back, does_after, executed, lin
 use Rattle.kernel_model.specs.declared.Action.{Action}
 use Rattle.kernel_model.specs.declared.Change.{Change}
 use Rattle.kernel_model.specs.declared.Does.TheVariants.{Ready}
-use Rattle.file_model.specs.Errno.{ECHILD, EFAULT}
 use Rattle.mck_word.specs.Words.{little_endian, refused, word_of}
 use Rattle.mck_word.specs.declared.Access.TheVariants.{Write}
 use Rattle.mck_word.specs.declared.End.TheVariants.{Killed}
 use Rattle.mck_word.specs.declared.Regs.{Regs}
 use Rattle.std.proofs.Common.{arith, refl, ◌∙◌}
 use Rattle.std.specs.Prelude.{Bool, List, None, Option, Some, [], cond, false, filter, not, pos, suc, true, zero, ℕ, ℤ, ◌+◌, ◌-◌, ◌==◌, ◌^◌, ◌∷◌, ◌≡◌}
-use Rattle.thread_laws.specs.Members.{SameThreads, keeps_threads, process_at}
 use Rattle.thread_laws.proofs.Stays.{changed-same, dropped-same, either-same, for_process-same}
+use Rattle.thread_laws.specs.Members.{SameThreads, keeps_threads, process_at}
 
 pub answered-same : (a : Node) (t : ℕ) (z : ℤ) → SameThreads a (answered t z a)
 answered-same a t z = changed-same a t (λ x. record x { regs = set_a0 (word_of z) x.regs; does = Ready }) (λ x. refl)

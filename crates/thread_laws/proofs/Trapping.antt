@@ -1,10 +1,10 @@
 -- A trap may end its own thread and make one with the next number, and leaves every other thread in its process.
+use Rattle.hybrid_model.specs.declared.events.Event.TheVariants as Events
 use Rattle.file_model.specs.Errno.{EAGAIN, EINVAL, ENOMEM, ENOSYS}
 use Rattle.hybrid_laws.proofs.calls.Closed.{calls-closed, finishes-closed, raised-closed}
 use Rattle.hybrid_model.specs.Events.{after_here, of_thread}
 use Rattle.hybrid_model.specs.Lwk.{after_trap, set_break, trapped, view_here}
 use Rattle.hybrid_model.specs.Pairs.{Here}
-use Rattle.hybrid_model.specs.declared.events.Event.TheVariants as Events
 use Rattle.isa_model.specs.Memory.{may_access}
 use Rattle.isa_model.specs.Registers.{reg}
 use Rattle.isa_model.specs.declared.stops.Stop.TheVariants.{Break, Ecall, Illegal, Misaligned, On, Fault as StopFault}
@@ -28,9 +28,9 @@ use Rattle.std.proofs.Common.{ap, arith, refl, sym, ◌∙◌}
 use Rattle.std.proofs.lemmas.Bool.Decides.{nat_tests}
 use Rattle.std.specs.Prelude.{Bool, List, None, Option, Some, cond, false, get_or, length, nat_le, nat_lt, not, pos, true, ℕ, ℤ, ◌+◌, ◌==◌, ◌||◌, ◌≡◌}
 use Rattle.thread_laws.proofs.Members.{OnlyOwn, TrapThreads}
-use Rattle.thread_laws.specs.Members.{SameThreads, process_at, process_in}
 use Rattle.thread_laws.proofs.Others.{answered-same}
 use Rattle.thread_laws.proofs.Stays.{changed-same, joined-own, own-closed, own-of-same, same-process}
+use Rattle.thread_laws.specs.Members.{SameThreads, process_at, process_in}
 
 -- thread n is made, in process q
 abbrev Made : (n q : ℕ) → Node → Node → Type 0

@@ -1,10 +1,10 @@
 -- Which threads there are, each in its process, and what an event leaves of them.
 use Rattle.hybrid_model.specs.Lwk.{caller_of}
 use Rattle.hybrid_model.specs.Sides.{Side}
-use Rattle.hybrid_model.specs.declared.events.Event.{Event}
 use Rattle.hybrid_model.specs.declared.events.Event.TheVariants.{Intake, Reap, Trap}
-use Rattle.ikc_ring.specs.declared.Msg.{Msg}
+use Rattle.hybrid_model.specs.declared.events.Event.{Event}
 use Rattle.ikc_ring.specs.declared.Msg.TheVariants.{Ack, Reply}
+use Rattle.ikc_ring.specs.declared.Msg.{Msg}
 use Rattle.kernel_model.specs.Nodes.{Node, Thread}
 use Rattle.mck_word.specs.Maps.{at}
 use Rattle.std.specs.Prelude.{Bool, List, None, Option, Some, cond, false, option_map, true, ℕ, ◌==◌, ◌∷◌, ◌≡◌}

@@ -3,8 +3,8 @@ use Rattle.hybrid_model.specs.Tallies.{Each, EachNumbered, EachRing}
 use Rattle.ikc_ring.specs.declared.Msg.{Msg}
 use Rattle.std.proofs.Common.{ap, arith, refl, subst, sym}
 use Rattle.std.proofs.Math.Logic.{∥∥₁_elim, ∥∥₁_map}
-use Rattle.std.specs.Coded.{Coded, Coded-set, coded_bool, coded_option, coded_ℕ, le_prop, ×_prop, Π_prop, →_prop}
 use Rattle.std.proofs.lemmas.Bool.Decides.{nat_tests}
+use Rattle.std.specs.Coded.{Coded, Coded-set, coded_bool, coded_option, coded_ℕ, le_prop, ×_prop, Π_prop, →_prop}
 use mathlib.Core.HLevel.{Σ_prop_path}
 use mathlib.Core.Logic.{inl, inr}
 use Rattle.std.specs.Prelude.{Bool, List, None, Option, Some, [], false, is_some, nat_lt, suc, true, unwrap_or, zero, ℕ, ◌<◌, ◌==◌, ◌∷◌, ◌⊎◌, ◌≡◌, ◌≤◌}

@@ -1,22 +1,22 @@
 -- What holds of one process is had from there being some proof of it: mirror, rounds and messages.
 use Rattle.clear_rounds.specs.contracts.Phase as phase
+use Rattle.ikc_ring.specs.contracts.Call as call
+use Rattle.kernel_model.specs.contracts.Does as does
+use Rattle.mck_word.specs.contracts.Frame as frame
+use Rattle.mck_word.specs.contracts.PageRange as page_range
+use Rattle.request_book.specs.contracts.ReqState as request_state
 use Rattle.hybrid_model.specs.Coherence.{AnswerCovered, AtMostInterrupt, AtMostRequest, CallsAgree, ClearIsOf, Covered, Covers, Directions, InOwnRing, Includes, InterruptIs, IsOutside, IsPart, Marked, Messages, NotAhead, OnlyOwn, Owned, Owns, Placed, RequestIs, Rounded, of_place, state_at}
 use Rattle.hybrid_model.specs.Sides.{Caller, Round, Row, Service}
 use Rattle.hybrid_model.specs.Tallies.{Reads}
-use Rattle.ikc_ring.specs.contracts.Call as call
 use Rattle.ikc_ring.specs.declared.Call.{Call}
-use Rattle.ikc_ring.specs.declared.Msg.{Msg}
 use Rattle.ikc_ring.specs.declared.Msg.TheVariants.{Request, Clear, Answer, Interrupt}
+use Rattle.ikc_ring.specs.declared.Msg.{Msg}
 use Rattle.kernel_model.specs.MemoryCalls.{closing_range}
 use Rattle.kernel_model.specs.Nodes.{Process, Thread, change_in}
-use Rattle.kernel_model.specs.contracts.Does as does
 use Rattle.kernel_model.specs.declared.Change.{Change}
 use Rattle.kernel_model.specs.declared.Does.TheVariants.{InVm}
-use Rattle.mck_word.specs.contracts.Frame as frame
-use Rattle.mck_word.specs.contracts.PageRange as page_range
 use Rattle.mck_word.specs.declared.PageRange.{PageRange}
 use Rattle.page_pins.specs.declared.Pin.{Pin}
-use Rattle.request_book.specs.contracts.ReqState as request_state
 use Rattle.request_book.specs.declared.ReqState.{ReqState}
 use Rattle.std.proofs.Common.{ap}
 use Rattle.std.proofs.Math.Logic.{∥∥₁_map}

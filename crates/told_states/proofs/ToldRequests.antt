@@ -1,18 +1,18 @@
 -- What holds of the requests of one process is had from there being some proof of it.
+use Rattle.mck_word.specs.contracts.Access as access
+use Rattle.request_book.specs.contracts.ReqState as request_state
 use Rattle.hybrid_model.specs.Coherence.{Answered, AnswerIsFor, AnswersNext, CallHolds, FaultIsFor, IsAwaited, IsForNext, PinServes, ReplyIsAwaited, Served, calls_it, is_faulted, service_at, state_at}
 use Rattle.hybrid_model.specs.Sides.{Caller, Noted, Row, Service}
 use Rattle.hybrid_model.specs.Tallies.{Reads}
 use Rattle.ikc_ring.specs.declared.Call.{Call}
-use Rattle.ikc_ring.specs.declared.Msg.{Msg}
 use Rattle.ikc_ring.specs.declared.Msg.TheVariants.{Answer, Fault, Reply}
+use Rattle.ikc_ring.specs.declared.Msg.{Msg}
 use Rattle.isa_model.specs.Memory.{allows}
 use Rattle.kernel_model.specs.Progress.{has_piece, needed_access, next_piece}
-use Rattle.mck_word.specs.contracts.Access as access
 use Rattle.mck_word.specs.declared.Access.{Access}
 use Rattle.page_pins.specs.declared.Pin.{Pin}
-use Rattle.request_book.specs.contracts.ReqState as request_state
-use Rattle.request_book.specs.declared.ReqState.{ReqState}
 use Rattle.request_book.specs.declared.ReqState.TheVariants.{Held}
+use Rattle.request_book.specs.declared.ReqState.{ReqState}
 use Rattle.std.proofs.Common.{ap, arith, refl, subst, sym, ◌∙◌}
 use Rattle.std.proofs.Math.Logic.{∥∥₁_map}
 use Rattle.std.proofs.lemmas.Bool.Decides.{nat_tests}

@@ -1,30 +1,30 @@
 -- Coherence of a whole state is had from there being some proof of it, and so is what lasts and what is small.
+use Rattle.kernel_model.specs.contracts.Does as does
+use Rattle.mck_flags.specs.contracts.rights.Rights as rights
+use Rattle.mck_word.specs.contracts.Access as access
+use Rattle.mck_word.specs.contracts.Frame as frame
+use Rattle.page_pins.specs.contracts.Pin as pin
+use Rattle.std.specs.FinMap as finmap
 use Rattle.hybrid_laws.specs.Lasting.{Lasting}
 use Rattle.hybrid_model.specs.Coherence.{OfProcess}
 use Rattle.hybrid_model.specs.Globals.{Coherent, Empty, Frames, FramesCounted, HeapHolds, IsUnderWay, Known, Places, Rising, Sleeping, StatusHolds, TurnHolds, ring_number, table_of}
 use Rattle.hybrid_model.specs.Pairs.{Pair, side_of}
+use Rattle.hybrid_model.specs.Shown.{status_of}
 use Rattle.hybrid_model.specs.Sides.{Row, Side, Turn}
 use Rattle.hybrid_model.specs.Tallies.{Reads}
-use Rattle.hybrid_model.specs.Shown.{status_of}
 use Rattle.ikc_ring.specs.declared.Msg.{Msg}
 use Rattle.kernel_model.specs.Nodes.{Node, Process, Sleeper, Thread, process_of}
 use Rattle.kernel_model.specs.OneKernel.{Active, Blocked, CallStatus, Over}
 use Rattle.kernel_model.specs.Progress.{Progress}
-use Rattle.kernel_model.specs.contracts.Does as does
 use Rattle.kernel_model.specs.declared.Change.TheVariants.{Brk, Map as ChangeMap, Protect, Unmap}
 use Rattle.kernel_model.specs.declared.Change.{Change}
 use Rattle.kernel_model.specs.declared.Does.TheVariants.{Asleep}
-use Rattle.mck_flags.specs.contracts.rights.Rights as rights
 use Rattle.mck_word.specs.Maps.{Map, at, no_rows}
-use Rattle.mck_word.specs.contracts.Access as access
-use Rattle.mck_word.specs.contracts.Frame as frame
 use Rattle.offer_laws.specs.ChangeFits.{ChangeFits, MemoryFits}
 use Rattle.offer_laws.specs.Small.{Small}
-use Rattle.page_pins.specs.contracts.Pin as pin
 use Rattle.std.proofs.Common.{ap, arith, refl}
 use Rattle.std.proofs.Math.Logic.{∥∥₁_map}
 use Rattle.std.specs.Coded.{coded_ℕ, coded×}
-use Rattle.std.specs.FinMap as finmap
 use Rattle.std.specs.Prelude.{List, [], length, ℕ, ◌∷◌, ◌≡◌}
 use Rattle.told_states.proofs.Told.{Found, Told, bool-told, data-told, found-told, le-told, lt-told, maybe-told, nat-told, never-told, none-told, rings-told}
 use Rattle.told_states.proofs.ToldProcess.{calls-told, covered-told, directions-told, interrupt-told, marked-told, messages-told, owned-told, request-told, rounded-told}

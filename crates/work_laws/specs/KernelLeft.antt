@@ -1,6 +1,6 @@
 -- What is left to do in the one-kernel state that is shown: the steps of calls, their marks, the signals that are pending, threads that rest or change memory, and processes.
-use Rattle.file_model.specs.Files.{Console, Files, Inode, is_open, most_console_bytes, most_file_bytes, most_pipe_bytes}
 use Rattle.file_model.specs.Acts.{count_is_valid}
+use Rattle.file_model.specs.Files.{Console, Files, Inode, is_open, most_console_bytes, most_file_bytes, most_pipe_bytes}
 use Rattle.file_model.specs.declared.descriptions.Target.TheVariants.{OfNode}
 use Rattle.hybrid_model.specs.Tallies.{as_number, tally}
 use Rattle.kernel_model.specs.Nodes.{Node, Process, Thread, has_ended}
@@ -8,8 +8,8 @@ use Rattle.kernel_model.specs.OneKernel.{Active, Blocked, Call, CallStatus, OneK
 use Rattle.kernel_model.specs.Pages.{page_size}
 use Rattle.kernel_model.specs.Plans.{Act, Gather, Phase, Scatter, Stream, has_path, has_vectors, vector_count}
 use Rattle.kernel_model.specs.Progress.{Progress}
-use Rattle.kernel_model.specs.declared.Does.{Does}
 use Rattle.kernel_model.specs.declared.Does.TheVariants.{Asleep, Called, InVm, InWait, Ready, Stopped}
+use Rattle.kernel_model.specs.declared.Does.{Does}
 use Rattle.kernel_model.specs.declared.ranges.Range.{Range}
 use Rattle.mck_word.specs.Maps.{entries, total}
 use Rattle.std.specs.Prelude.{Bool, List, [], cond, false, length, nat_lt, not, sum_by, true, ℕ, ◌%◌, ◌&&◌, ◌*◌, ◌+◌, ◌-◌, ◌/◌, ◌∷◌}

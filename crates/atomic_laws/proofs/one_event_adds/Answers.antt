@@ -1,5 +1,5 @@
-use Rattle.atomic_laws.proofs.AddingEvents.{event-adds, event-whole, journal-whole}
 use Rattle.atomic_laws.proofs.one_event_adds.Goals as goal
+use Rattle.atomic_laws.proofs.AddingEvents.{event-adds, event-whole, journal-whole}
 
 pub returns-clause-adds : goal.returns-clause-adds
 returns-clause-adds c = λ pair e p a is coherent whole allowed only. event-adds pair e p a is coherent whole allowed only

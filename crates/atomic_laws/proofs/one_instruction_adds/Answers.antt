@@ -1,5 +1,5 @@
-use Rattle.atomic_laws.proofs.Adding.{counts, instr-adds}
 use Rattle.atomic_laws.proofs.one_instruction_adds.Goals as goal
+use Rattle.atomic_laws.proofs.Adding.{counts, instr-adds}
 
 pub returns-clause-adds : goal.returns-clause-adds
 returns-clause-adds c = λ a r m is whole only. instr-adds a is m whole r only

@@ -1,5 +1,5 @@
-use Rattle.guest_laws.proofs.SameReport.{ends-alike, same-report, same-shown}
 use Rattle.guest_laws.proofs.images_tell_the_report.Goals as goal
+use Rattle.guest_laws.proofs.SameReport.{ends-alike, same-report, same-shown}
 
 pub returns-clause-shown : goal.returns-clause-shown
 returns-clause-shown c = λ job imgs j k prepared a b same. same-shown job imgs j k prepared a b same

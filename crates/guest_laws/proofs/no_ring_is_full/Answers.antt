@@ -1,7 +1,7 @@
-use Rattle.guest_laws.proofs.RingRoom.{finds-room, rings-fit}
-use Rattle.hybrid_laws.proofs.journal.Journal.{each-event}
-use Rattle.hybrid_laws.proofs.every.Lwk.{each-lwk}
 use Rattle.guest_laws.proofs.no_ring_is_full.Goals as goal
+use Rattle.guest_laws.proofs.RingRoom.{finds-room, rings-fit}
+use Rattle.hybrid_laws.proofs.every.Lwk.{each-lwk}
+use Rattle.hybrid_laws.proofs.journal.Journal.{each-event}
 
 pub returns-clause-fit : goal.returns-clause-fit
 returns-clause-fit c = λ pair coherent. rings-fit pair coherent

@@ -1,14 +1,14 @@
 -- AckClear keeps what holds of the process, and shows nothing: no pin lies in the range any more, and the Ack goes back.
 use Rattle.hybrid_model.specs.declared.events.Event.TheVariants as Events
 use Rattle.clear_rounds.specs.declared.Phase.TheVariants.{Posted as RoundPosted, Taken, Acked}
-use Rattle.hybrid_laws.proofs.rings.Back.{Answered-back}
 use Rattle.hybrid_laws.proofs.fetch.Clear.{owned-in}
-use Rattle.hybrid_laws.proofs.rings.InRings.{in_rings, rings-back}
 use Rattle.hybrid_laws.proofs.maps.Reading.{Each-push, EachRing-map, EachRing-where, tally-push}
+use Rattle.hybrid_laws.proofs.maps.Tests.{both, not-true}
 use Rattle.hybrid_laws.proofs.requests.Silent.{code-other, shown-silent}
+use Rattle.hybrid_laws.proofs.rings.Back.{Answered-back}
+use Rattle.hybrid_laws.proofs.rings.InRings.{in_rings, rings-back}
 use Rattle.hybrid_laws.proofs.states.Simulated.{simulated-none}
 use Rattle.hybrid_laws.specs.Simulated.{Simulated}
-use Rattle.hybrid_laws.proofs.maps.Tests.{both, not-true}
 use Rattle.hybrid_model.specs.Coherence.{ClearIsOf, FaultIsFor, IsOutside, OfProcess, Rounded, acks, clears, faults_of}
 use Rattle.hybrid_model.specs.Events.{ack_clear, after_here, may_here}
 use Rattle.hybrid_model.specs.Linux.{clear_in}
@@ -16,8 +16,8 @@ use Rattle.hybrid_model.specs.Pairs.{Here}
 use Rattle.hybrid_model.specs.Shown.{has_empty, status_in}
 use Rattle.hybrid_model.specs.Sides.{Round, Row, call_in, service_of, state_in, with_phase}
 use Rattle.hybrid_model.specs.Tallies.{Reads}
-use Rattle.ikc_ring.specs.declared.Msg.{Msg}
 use Rattle.ikc_ring.specs.declared.Msg.TheVariants.{Ack, Answer, Clear, Fault, Interrupt, Reply, Request}
+use Rattle.ikc_ring.specs.declared.Msg.{Msg}
 use Rattle.kernel_model.specs.Nodes.{process_of}
 use Rattle.mck_word.specs.Maps.{entries, at}
 use Rattle.mck_word.specs.Pages.{in_range}

@@ -2,14 +2,14 @@
 use Rattle.hybrid_model.specs.declared.events.Event.TheVariants as Events
 use Rattle.kernel_model.specs.declared.steps.Step.TheVariants as Steps
 use Rattle.kernel_model.specs.Steps as OneSteps
+use Rattle.hybrid_laws.proofs.maps.Tests.{both}
 use Rattle.hybrid_laws.proofs.requests.HeldStep.{keeps_step, state-facts}
 use Rattle.hybrid_laws.proofs.requests.OneRequest.{files-any}
 use Rattle.hybrid_laws.proofs.requests.Serving.{Serves, free-to-act}
-use Rattle.hybrid_laws.proofs.states.Simulated.{simulated-one}
-use Rattle.hybrid_laws.specs.Simulated.{Simulated}
 use Rattle.hybrid_laws.proofs.requests.Speaking.{calls-after, shown-call-at, the-caller, thread-served-is}
 use Rattle.hybrid_laws.proofs.requests.Statuses.{put-other, put-own, status-if, status-others, status-own}
-use Rattle.hybrid_laws.proofs.maps.Tests.{both}
+use Rattle.hybrid_laws.proofs.states.Simulated.{simulated-one}
+use Rattle.hybrid_laws.specs.Simulated.{Simulated}
 use Rattle.hybrid_model.specs.Coherence.{OfProcess}
 use Rattle.hybrid_model.specs.Events.{act_file, after_here, may_here}
 use Rattle.hybrid_model.specs.Images.{one_step}

@@ -1,16 +1,16 @@
 -- Act in the whole state.
 use Rattle.hybrid_model.specs.declared.events.Event.TheVariants as Events
-use Rattle.hybrid_laws.proofs.act.Act.{kept, MayAct, act-is, may-act, now, others, simulates_act}
+use Rattle.hybrid_laws.proofs.act.Act.{MayAct, act-is, kept, may-act, now, others, simulates_act}
 use Rattle.hybrid_laws.proofs.calls.Laws.{carries-file-step}
-use Rattle.hybrid_laws.specs.CallSteps.{StepCarries}
+use Rattle.hybrid_laws.proofs.maps.Tests.{both}
 use Rattle.hybrid_laws.proofs.requests.OneRequest.{files-any}
 use Rattle.hybrid_laws.proofs.requests.Speaking.{the-thread, thread-served-is}
 use Rattle.hybrid_laws.proofs.requests.Statuses.{put-other}
-use Rattle.hybrid_laws.proofs.maps.Tests.{both}
 use Rattle.hybrid_laws.proofs.states.Pair.{has-side}
 use Rattle.hybrid_laws.proofs.states.Step.{coherent-step, found-held, under-way}
 use Rattle.hybrid_laws.proofs.states.Steps.{SimulatedPair, simulated-pair}
 use Rattle.hybrid_laws.proofs.states.Turns.{stated-other}
+use Rattle.hybrid_laws.specs.CallSteps.{StepCarries}
 use Rattle.hybrid_model.specs.Coherence.{OfProcess}
 use Rattle.hybrid_model.specs.Events.{act_file, after, may, may_here}
 use Rattle.hybrid_model.specs.Globals.{Coherent, ring_number, waits_or_held}

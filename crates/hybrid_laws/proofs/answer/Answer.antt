@@ -1,9 +1,9 @@
 -- Answer keeps what holds of every process, with a row or without.
 use Rattle.hybrid_model.specs.declared.events.Event.TheVariants as Events
-use Rattle.hybrid_laws.proofs.node.Primitives.{then}
-use Rattle.hybrid_laws.proofs.rings.Placing.{Marked-post, Messages-post}
 use Rattle.hybrid_laws.proofs.maps.Reading.{EachRing-post, reads-cut, sum-post}
 use Rattle.hybrid_laws.proofs.maps.Tests.{both, not-true}
+use Rattle.hybrid_laws.proofs.node.Primitives.{then}
+use Rattle.hybrid_laws.proofs.rings.Placing.{Marked-post, Messages-post}
 use Rattle.hybrid_model.specs.Coherence.{AnswerCovered, AnswerIsFor, ClearIsOf, Covered, InterruptIs, IsForNext, IsOutside, NotAhead, OfProcess, RequestIs, Rounded, Served, answers_to, asks, clears, goes_to_linux}
 use Rattle.hybrid_model.specs.Events.{after_here, may_here}
 use Rattle.hybrid_model.specs.Lwk.{may_answer, noted_may_be_answered, post_answer, thread_served}
@@ -12,8 +12,8 @@ use Rattle.hybrid_model.specs.Rings.{post}
 use Rattle.hybrid_model.specs.Sides.{Noted, Round, Row, Service, Side, closes, looked_up}
 use Rattle.hybrid_model.specs.Tallies.{Reads, with_at}
 use Rattle.ikc_ring.specs.declared.Call.{Call}
-use Rattle.ikc_ring.specs.declared.Msg.{Msg}
 use Rattle.ikc_ring.specs.declared.Msg.TheVariants.{Answer}
+use Rattle.ikc_ring.specs.declared.Msg.{Msg}
 use Rattle.isa_model.specs.Memory.{allows}
 use Rattle.kernel_model.specs.Nodes.{Node}
 use Rattle.mck_word.specs.Maps.{at}

@@ -6,9 +6,9 @@ use Rattle.hybrid_laws.proofs.answer.Answer.{MayAnswer, may_be_answered}
 use Rattle.hybrid_laws.proofs.intake.Fault.{at-most}
 use Rattle.hybrid_laws.proofs.node.Primitives.{then}
 use Rattle.hybrid_laws.proofs.requests.Showing.{has_empty-post, no_empty, shown-same}
+use Rattle.hybrid_laws.proofs.requests.Speaking.{calls-after, shown-call-at, the-caller, thread-served-is}
 use Rattle.hybrid_laws.proofs.states.Simulated.{simulated-none, simulated-one}
 use Rattle.hybrid_laws.specs.Simulated.{Simulated}
-use Rattle.hybrid_laws.proofs.requests.Speaking.{calls-after, shown-call-at, the-caller, thread-served-is}
 use Rattle.hybrid_model.specs.Coherence.{IsForNext, OfProcess, answers_to, faulting, faults_of, is_faulted}
 use Rattle.hybrid_model.specs.Events.{may_here}
 use Rattle.hybrid_model.specs.Images.{image_here, image_of_answer}
@@ -20,8 +20,8 @@ use Rattle.hybrid_model.specs.Sides.{Row, Side, call_in, looked_up, no_service, 
 use Rattle.hybrid_model.specs.Spaces.{shown_memory, shown_row}
 use Rattle.hybrid_model.specs.Tallies.{Reads, sum_rings, tally}
 use Rattle.ikc_ring.specs.declared.Call.{Call}
-use Rattle.ikc_ring.specs.declared.Msg.{Msg}
 use Rattle.ikc_ring.specs.declared.Msg.TheVariants.{Answer}
+use Rattle.ikc_ring.specs.declared.Msg.{Msg}
 use Rattle.isa_model.specs.Memory.{allows, allows_in}
 use Rattle.kernel_model.specs.Nodes.{set_files}
 use Rattle.kernel_model.specs.OneKernel.{Active, Over}
@@ -31,8 +31,8 @@ use Rattle.mck_word.specs.MapLaws.{at-collect}
 use Rattle.mck_word.specs.Maps.{Map, and_then, at, cut, each, put}
 use Rattle.mck_word.specs.declared.Access.{Access}
 use Rattle.mck_word.specs.declared.Pid.{Pid}
-use Rattle.request_book.specs.declared.ReqState.{ReqState}
 use Rattle.request_book.specs.declared.ReqState.TheVariants.{Ended, Faulted, Held, Parked, Posted, Replied, Waiting}
+use Rattle.request_book.specs.declared.ReqState.{ReqState}
 use Rattle.std.proofs.Common.{ap, arith, refl, sym, ◌∙◌}
 use Rattle.std.proofs.lemmas.Bool.Decides.{nat_tests}
 use Rattle.std.specs.Prelude.{Bool, List, None, Option, Some, [], false, if◌then◌else◌, length, suc, true, unwrap_or, zero, ℕ, ◌++◌, ◌+◌, ◌==◌, ◌||◌, ◌∷◌, ◌≡◌, ◌≤◌}

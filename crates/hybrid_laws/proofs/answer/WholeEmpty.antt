@@ -5,17 +5,17 @@ use Rattle.hybrid_laws.proofs.states.Calls as calls
 use Rattle.file_model.specs.Files.{Files}
 use Rattle.hybrid_laws.proofs.answer.Answer.{keeps_post_answer, may_be_answered}
 use Rattle.hybrid_laws.proofs.answer.Shown.{simulated_answer_empty}
+use Rattle.hybrid_laws.proofs.begin_vm.Whole.{length-post, rings-hold}
 use Rattle.hybrid_laws.proofs.calls.Steps.{gives-back}
-use Rattle.hybrid_laws.specs.CallSteps.{Carries}
+use Rattle.hybrid_laws.proofs.maps.Tests.{both}
 use Rattle.hybrid_laws.proofs.requests.OneRequest.{files-any}
 use Rattle.hybrid_laws.proofs.requests.Speaking.{the-thread, thread-served-is}
-use Rattle.hybrid_laws.proofs.maps.Tests.{both}
-use Rattle.hybrid_laws.proofs.trap.Begins.{ring-there}
-use Rattle.hybrid_laws.proofs.begin_vm.Whole.{length-post, rings-hold}
 use Rattle.hybrid_laws.proofs.states.Calls.{calls-now}
 use Rattle.hybrid_laws.proofs.states.Pair.{coherent-after, has-side, held-after, pair_after}
 use Rattle.hybrid_laws.proofs.states.Steps.{AtMostOne, SimulatedPair, simulated-pair}
 use Rattle.hybrid_laws.proofs.states.Turns.{turns-after}
+use Rattle.hybrid_laws.proofs.trap.Begins.{ring-there}
+use Rattle.hybrid_laws.specs.CallSteps.{Carries}
 use Rattle.hybrid_model.specs.Events.{after, may, may_here}
 use Rattle.hybrid_model.specs.Globals.{Coherent, TurnsHold, ring_number, waits_or_held}
 use Rattle.hybrid_model.specs.Images.{image_here, image_of_answer}
@@ -31,8 +31,8 @@ use Rattle.kernel_model.specs.OneKernel.{Active, Over}
 use Rattle.kernel_model.specs.Progress.{Progress, fault_answer}
 use Rattle.mck_word.specs.Maps.{at}
 use Rattle.mck_word.specs.declared.Pid.{Pid}
-use Rattle.request_book.specs.declared.ReqState.{ReqState}
 use Rattle.request_book.specs.declared.ReqState.TheVariants.{Faulted}
+use Rattle.request_book.specs.declared.ReqState.{ReqState}
 use Rattle.std.proofs.Common.{ap, arith, refl, subst, sym, ◌∙◌}
 use Rattle.std.proofs.lemmas.Bool.Decides.{nat_tests}
 use Rattle.std.specs.Prelude.{Bool, None, Option, Some, false, true, unwrap_or, ℕ, ◌==◌, ◌≡◌}

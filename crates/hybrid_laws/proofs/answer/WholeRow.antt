@@ -3,13 +3,13 @@ use Rattle.hybrid_model.specs.declared.events.Event.TheVariants as Events
 use Rattle.file_model.specs.Files.{Files}
 use Rattle.hybrid_laws.proofs.answer.Answer.{keeps_post_answer, may_be_answered}
 use Rattle.hybrid_laws.proofs.answer.Shown.{simulated_answer_row}
-use Rattle.hybrid_laws.specs.Simulated.{steps_after}
-use Rattle.hybrid_laws.proofs.maps.Tests.{both}
-use Rattle.hybrid_laws.proofs.trap.Begins.{ring-there}
 use Rattle.hybrid_laws.proofs.begin_vm.Whole.{length-post, rings-hold}
+use Rattle.hybrid_laws.proofs.maps.Tests.{both}
 use Rattle.hybrid_laws.proofs.states.Pair.{has-side, pair_after}
 use Rattle.hybrid_laws.proofs.states.Silent.{coherent-silent, turns-stay}
 use Rattle.hybrid_laws.proofs.states.Steps.{AtMostOne, SimulatedPair, simulated-pair}
+use Rattle.hybrid_laws.proofs.trap.Begins.{ring-there}
+use Rattle.hybrid_laws.specs.Simulated.{steps_after}
 use Rattle.hybrid_model.specs.Events.{after, may, may_here}
 use Rattle.hybrid_model.specs.Globals.{Coherent, ring_number}
 use Rattle.hybrid_model.specs.Images.{image_here, image_of_answer}

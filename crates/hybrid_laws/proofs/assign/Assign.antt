@@ -1,12 +1,12 @@
 -- Assign keeps what holds of the process, and shows nothing.
 use Rattle.hybrid_model.specs.declared.events.Event.TheVariants as Events
-use Rattle.hybrid_laws.proofs.requests.OneRequest.{goes_on}
 use Rattle.hybrid_laws.proofs.maps.Reading.{reads-put, reads-stated}
+use Rattle.hybrid_laws.proofs.maps.Tests.{both, none-is, not-empty}
+use Rattle.hybrid_laws.proofs.requests.OneRequest.{goes_on}
 use Rattle.hybrid_laws.proofs.requests.Requests.{IsForNext-keeps, PinServes-keeps, answers-keep, faults-keep, noted-keep}
 use Rattle.hybrid_laws.proofs.requests.Showing.{has_empty-same, shown-same}
 use Rattle.hybrid_laws.proofs.states.Simulated.{simulated-none}
 use Rattle.hybrid_laws.specs.Simulated.{Simulated}
-use Rattle.hybrid_laws.proofs.maps.Tests.{not-empty, both, none-is}
 use Rattle.hybrid_model.specs.Coherence.{Served, IsForNext, state_at, service_at, is_waiting, OfProcess}
 use Rattle.hybrid_model.specs.Events.{after_here, may_here}
 use Rattle.hybrid_model.specs.Linux.{assign}
@@ -21,8 +21,8 @@ use Rattle.mck_word.specs.Maps.{at, Map, put}
 use Rattle.mck_word.specs.declared.Access.{Access}
 use Rattle.mck_word.specs.declared.Pid.{Pid}
 use Rattle.page_pins.specs.declared.Pin.{Pin}
-use Rattle.request_book.specs.declared.ReqState.{ReqState}
 use Rattle.request_book.specs.declared.ReqState.TheVariants.{Posted, Waiting, Held, Parked, Faulted, Ended, Replied}
+use Rattle.request_book.specs.declared.ReqState.{ReqState}
 use Rattle.std.proofs.Common.{arith, refl, ap}
 use Rattle.std.proofs.lemmas.Bool.Decides.{nat_tests}
 use Rattle.std.specs.Prelude.{List, None, Option, Some, ℕ, ◌∷◌, ◌≡◌, length, not, true, ◌==◌, Bool, false, if◌then◌else◌, unwrap_or, ◌<◌, is_none, nat_lt, ◌&&◌}

@@ -1,13 +1,13 @@
 -- BeginVm keeps what holds of every process, and shows nothing.
 use Rattle.hybrid_model.specs.declared.events.Event.TheVariants as Events
 use Rattle.clear_rounds.specs.declared.Phase.TheVariants.{Posted as RoundPosted}
-use Rattle.hybrid_laws.proofs.rings.Placing.{Marked-post, Messages-post}
 use Rattle.hybrid_laws.proofs.maps.Reading.{EachRing-map, EachRing-post, sum-post}
-use Rattle.hybrid_laws.proofs.requests.Showing.{has_empty-post, shown-same}
-use Rattle.hybrid_laws.proofs.states.Simulated.{simulated-none}
-use Rattle.hybrid_laws.specs.Simulated.{Simulated}
 use Rattle.hybrid_laws.proofs.maps.Tests.{both, none-is, some-is}
 use Rattle.hybrid_laws.proofs.node.Threads.{IsThread, thread-is}
+use Rattle.hybrid_laws.proofs.requests.Showing.{has_empty-post, shown-same}
+use Rattle.hybrid_laws.proofs.rings.Placing.{Marked-post, Messages-post}
+use Rattle.hybrid_laws.proofs.states.Simulated.{simulated-none}
+use Rattle.hybrid_laws.specs.Simulated.{Simulated}
 use Rattle.hybrid_model.specs.Coherence.{OfProcess, Covered, Rounded, AnswerCovered, AnswerIsFor, ClearIsOf, IsOutside, NotAhead, answers_to, asks, clears, RequestIs, InterruptIs, goes_to_linux}
 use Rattle.hybrid_model.specs.Events.{after_here, may_here}
 use Rattle.hybrid_model.specs.Lwk.{begin_round, begin_vm_of, may_begin_vm}
@@ -16,13 +16,13 @@ use Rattle.hybrid_model.specs.Rings.{post}
 use Rattle.hybrid_model.specs.Shown.{status_in, shown_own, reply_code, shown_born, shown_here}
 use Rattle.hybrid_model.specs.Sides.{Side, Row, Round, call_in, no_service, state_in}
 use Rattle.hybrid_model.specs.Tallies.{Reads}
-use Rattle.ikc_ring.specs.declared.Msg.{Msg}
 use Rattle.ikc_ring.specs.declared.Msg.TheVariants.{Request, Clear, Answer, Interrupt, Reply, Ack, Fault}
+use Rattle.ikc_ring.specs.declared.Msg.{Msg}
 use Rattle.kernel_model.specs.MemoryCalls.{closing_range}
 use Rattle.kernel_model.specs.Nodes.{Node, Thread, process_of, change_in, is_living, thread_of}
 use Rattle.kernel_model.specs.declared.Change.{Change}
-use Rattle.kernel_model.specs.declared.Does.{Does}
 use Rattle.kernel_model.specs.declared.Does.TheVariants.{InVm, Asleep, Called, InWait, Ready, Stopped}
+use Rattle.kernel_model.specs.declared.Does.{Does}
 use Rattle.mck_word.specs.Maps.{Map, at}
 use Rattle.mck_word.specs.declared.PageRange.{PageRange}
 use Rattle.mck_word.specs.declared.Tid.{Tid}

@@ -3,11 +3,11 @@ use Rattle.hybrid_model.specs.declared.events.Event.TheVariants as Events
 use Rattle.hybrid_laws.proofs.begin_vm.BeginVm.{MayBegin, image_begin_vm, keeps_begin_round, may-begin, simulated_begin_vm}
 use Rattle.hybrid_laws.proofs.maps.Tests.{both}
 use Rattle.hybrid_laws.proofs.node.Threads.{thread-is}
-use Rattle.hybrid_laws.proofs.trap.Begins.{ring-there}
-use Rattle.hybrid_laws.specs.OneProcess.{RingsHold}
 use Rattle.hybrid_laws.proofs.states.Pair.{has-side, pair_after}
 use Rattle.hybrid_laws.proofs.states.Silent.{coherent-silent, turns-stay}
 use Rattle.hybrid_laws.proofs.states.Steps.{SimulatedPair, simulated-pair}
+use Rattle.hybrid_laws.proofs.trap.Begins.{ring-there}
+use Rattle.hybrid_laws.specs.OneProcess.{RingsHold}
 use Rattle.hybrid_model.specs.Events.{after, may, may_here}
 use Rattle.hybrid_model.specs.Globals.{Coherent, ring_number}
 use Rattle.hybrid_model.specs.Lwk.{begin_round, begin_vm_of}
@@ -15,8 +15,8 @@ use Rattle.hybrid_model.specs.Pairs.{Here, Pair, here, put_here, ring_of, side_o
 use Rattle.hybrid_model.specs.Rings.{post}
 use Rattle.hybrid_model.specs.Shown.{shown_own}
 use Rattle.hybrid_model.specs.Sides.{Side}
-use Rattle.ikc_ring.specs.declared.Msg.{Msg}
 use Rattle.ikc_ring.specs.declared.Msg.TheVariants.{Clear}
+use Rattle.ikc_ring.specs.declared.Msg.{Msg}
 use Rattle.kernel_model.specs.MemoryCalls.{closing_range}
 use Rattle.kernel_model.specs.Nodes.{Thread, change_in, is_there, process_of, thread_of}
 use Rattle.kernel_model.specs.declared.Change.{Change}

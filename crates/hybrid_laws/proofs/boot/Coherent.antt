@@ -3,13 +3,13 @@ use Rattle.kernel_model.specs.OneKernel as One
 use Rattle.hybrid_laws.proofs.boot.Files.{boot-calls}
 use Rattle.hybrid_laws.proofs.boot.Pages.{length-from}
 use Rattle.hybrid_laws.proofs.boot.Sides.{Grown, Guests, all-guests, by-guest-at, by-guest-is, fresh_side, rows_of, tables_in}
-use Rattle.hybrid_laws.proofs.memory.Copying.{or_else}
 use Rattle.hybrid_laws.proofs.journal.Journal.{Begins}
+use Rattle.hybrid_laws.proofs.maps.Tests.{some-is}
+use Rattle.hybrid_laws.proofs.memory.Copying.{or_else}
 use Rattle.hybrid_laws.proofs.memory.NewSide.{new_side-keeps, no-at}
+use Rattle.hybrid_laws.proofs.memory.Written.{each-entry}
 use Rattle.hybrid_laws.proofs.node.Sound.{stopped-total}
 use Rattle.hybrid_laws.specs.Stopped.{stops}
-use Rattle.hybrid_laws.proofs.maps.Tests.{some-is}
-use Rattle.hybrid_laws.proofs.memory.Written.{each-entry}
 use Rattle.hybrid_model.specs.Boot.{Booted, boot, booted, shortage, shortage_from, zero_frames}
 use Rattle.hybrid_model.specs.Coherence.{OfProcess}
 use Rattle.hybrid_model.specs.Globals.{Coherent, Empty, HeapHolds, NumbersPaid, Rising, copies, description_held, holders, is_number, ring_number}
@@ -25,8 +25,8 @@ use Rattle.kernel_model.specs.MemoryCalls.{most_heap}
 use Rattle.kernel_model.specs.Nodes.{Process, Thread, has_ended, has_process, is_called, is_ended, is_stopped, is_there, no_process}
 use Rattle.kernel_model.specs.OneKernel.{Guest, Own, boot_node, by_guest, first_free_number, guest_own, guest_process, guest_thread, guests_from, guests_of, rows_of_guests}
 use Rattle.kernel_model.specs.Pages.{page_end, page_size}
-use Rattle.kernel_model.specs.declared.Does.{Does}
 use Rattle.kernel_model.specs.declared.Does.TheVariants.{Ready}
+use Rattle.kernel_model.specs.declared.Does.{Does}
 use Rattle.kernel_model.specs.declared.Life.TheVariants.{Living}
 use Rattle.mck_word.specs.Lists.{count_from}
 use Rattle.mck_word.specs.MapLaws.{at-collect, at-none, same_rows}

@@ -2,8 +2,8 @@
 use Rattle.file_model.specs.Files.{Files, Name, description_of, lowest_free, made, no_description, opened, root, root_only, set_console, with_console}
 use Rattle.file_model.specs.Paths.{add_file, child, names_of}
 use Rattle.file_model.specs.declared.descriptions.Description.{Description}
-use Rattle.file_model.specs.declared.descriptions.Target.{Target}
 use Rattle.file_model.specs.declared.descriptions.Target.TheVariants.{OfConsole}
+use Rattle.file_model.specs.declared.descriptions.Target.{Target}
 use Rattle.job_model.specs.declared.job.FileLine.{FileLine}
 use Rattle.job_model.specs.declared.job.Job.{Job}
 use Rattle.kernel_model.specs.OneKernel.{boot_files, input_of, with_consoles, with_line}

@@ -1,13 +1,13 @@
 -- The sides at the boot, guest by guest: each has its memory in the lowest free frames, and the other sides show what they showed.
 use Rattle.std.specs.FinMap as finmap
 use Rattle.hybrid_laws.proofs.boot.Pages.{count-guest}
-use Rattle.hybrid_laws.proofs.memory.Copying.{bytes_copied, frames_copied, length_copied, or_else, put_all, put_all-entries, shown_copied}
-use Rattle.hybrid_laws.specs.OneProcess.{with_table, FramesOf}
-use Rattle.hybrid_laws.proofs.memory.NewSide.{no-at}
 use Rattle.hybrid_laws.proofs.maps.Reading.{each-same}
-use Rattle.hybrid_laws.proofs.reap.Reap.{count-each, each-none}
 use Rattle.hybrid_laws.proofs.maps.Sums.{counted_in, total-put}
+use Rattle.hybrid_laws.proofs.memory.Copying.{bytes_copied, frames_copied, length_copied, or_else, put_all, put_all-entries, shown_copied}
+use Rattle.hybrid_laws.proofs.memory.NewSide.{no-at}
+use Rattle.hybrid_laws.proofs.reap.Reap.{count-each, each-none}
 use Rattle.hybrid_laws.proofs.trap.Forks.{frames-fewer}
+use Rattle.hybrid_laws.specs.OneProcess.{FramesOf, with_table}
 use Rattle.hybrid_model.specs.Boot.{Booted, shortage_from, with_guest}
 use Rattle.hybrid_model.specs.Globals.{Frames, copies}
 use Rattle.hybrid_model.specs.Shown.{shown_call, shown_own}

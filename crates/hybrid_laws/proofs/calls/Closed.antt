@@ -12,14 +12,14 @@ use Rattle.kernel_model.specs.SignalSets.{has, with_signal, without_signal}
 use Rattle.kernel_model.specs.Signals.{SA_RESETHAND, View, after_reset, deliver, deliver_signal, drop_ignored, enter_handler, frame_address, frame_size, generate_for_process, generate_for_thread, handler_mask, handler_regs, ignores, interrupted_regs, mask_in, moved_to_own, next_signal, on_node, raised, restored, return_from_handler, frame_bytes as signal_frame, store, taken, with_action}
 use Rattle.kernel_model.specs.Traps.{finishes, is_error, line_is, line_of, returns, script_sent, sent}
 use Rattle.kernel_model.specs.declared.Action.{Action}
-use Rattle.kernel_model.specs.declared.Does.{Does}
 use Rattle.kernel_model.specs.declared.Does.TheVariants.{Asleep, Called, InVm, InWait, Ready, Stopped}
-use Rattle.kernel_model.specs.declared.Life.{Life}
+use Rattle.kernel_model.specs.declared.Does.{Does}
 use Rattle.kernel_model.specs.declared.Life.TheVariants.{Dying, Ended as LifeEnded, Living}
+use Rattle.kernel_model.specs.declared.Life.{Life}
 use Rattle.mck_word.specs.Words.{int_argument, little_endian, number_of, refused, word_of}
 use Rattle.mck_word.specs.declared.Access.TheVariants.{Write}
-use Rattle.mck_word.specs.declared.End.{End}
 use Rattle.mck_word.specs.declared.End.TheVariants.{Exit, Killed}
+use Rattle.mck_word.specs.declared.End.{End}
 use Rattle.mck_word.specs.declared.Regs.{Regs}
 use Rattle.std.proofs.Common.{refl}
 use Rattle.std.specs.Prelude.{Bool, List, None, Option, Some, cond, false, filter, length, min, not, pos, slice_set, true, ℕ, ℤ, ◌%◌, ◌+◌, ◌-◌, ◌==◌, ◌^◌, ◌||◌, ◌≡◌}

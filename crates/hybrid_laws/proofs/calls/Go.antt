@@ -1,11 +1,11 @@
 -- What each event leaves of a process's calls: the Interrupts of marked calls stay told of, and a number is gone, given but no more in the book, once its reply is posted.
-use Rattle.hybrid_laws.specs.Journals.{gone_in, gone}
 use Rattle.hybrid_model.specs.declared.events.Event.TheVariants as Events
 use Rattle.hybrid_laws.proofs.assign.Assign.{MayAssign, may-assign, waiting-first}
-use Rattle.hybrid_laws.specs.Lasting.{IsTold, MarksTold}
 use Rattle.hybrid_laws.proofs.maps.Reading.{reads-stated}
-use Rattle.hybrid_laws.proofs.requests.Serving.{Serves, ended-it, free-to-act, holds-it, parked-in}
 use Rattle.hybrid_laws.proofs.maps.Tests.{both}
+use Rattle.hybrid_laws.proofs.requests.Serving.{Serves, ended-it, free-to-act, holds-it, parked-in}
+use Rattle.hybrid_laws.specs.Journals.{gone, gone_in}
+use Rattle.hybrid_laws.specs.Lasting.{IsTold, MarksTold}
 use Rattle.hybrid_model.specs.Coherence.{OfProcess, interrupts_of, is_waiting, state_at}
 use Rattle.hybrid_model.specs.Events.{ack_clear, act_file, after_here, copy, finish_here, may_here, miss, park_here, unpark_here}
 use Rattle.hybrid_model.specs.Linux.{acted, assign, copied, finish, has_pin, holds, is_ended_or_replied, is_ended_request, is_free_to_act, is_parked, is_uncopied, kind_for, may_act, may_copy, may_finish, may_miss, may_park, may_take_turn, moved_by, park_blocks, park_stops, parks, pin, pinned, row_for, state_if, stepped, stepped_book, stepped_service, unpark, unpin}
@@ -20,11 +20,11 @@ use Rattle.mck_word.specs.MapLaws.{at-cut, at-put}
 use Rattle.mck_word.specs.Maps.{Map, at, cut, put}
 use Rattle.mck_word.specs.declared.Pid.{Pid}
 use Rattle.mck_word.specs.declared.Req.{Req}
-use Rattle.request_book.specs.declared.ReqState.{ReqState}
 use Rattle.request_book.specs.declared.ReqState.TheVariants.{Ended, Faulted, Held, Parked, Waiting}
+use Rattle.request_book.specs.declared.ReqState.{ReqState}
 use Rattle.std.proofs.Common.{ap, arith, inl, inr, refl, subst, sym, ◌∙◌}
-use Rattle.std.proofs.lemmas.Bool.{cases_lt}
 use Rattle.std.proofs.lemmas.Bool.Decides.{nat_tests}
+use Rattle.std.proofs.lemmas.Bool.{cases_lt}
 use Rattle.std.specs.Prelude.{Bool, List, None, Option, Some, [], cond, false, if◌then◌else◌, is_none, is_some, length, nat_lt, not, true, unwrap_or, ℕ, ◌&&◌, ◌+◌, ◌<◌, ◌==◌, ◌||◌, ◌∷◌, ◌≡◌, ◌≤◌, ◌⊎◌}
 
 abbrev pub posts_none : ℕ → ℕ

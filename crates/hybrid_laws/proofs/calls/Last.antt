@@ -1,13 +1,13 @@
 -- What each event leaves of the calls in the whole state: marked calls stay told of, and a number is gone once its one reply is posted.
 use Rattle.hybrid_model.specs.declared.events.Event.TheVariants as Events
 use Rattle.hybrid_laws.proofs.calls.Go.{CallsGo, go-ack_clear, go-act, go-assign, go-copy, go-finish, go-miss, go-park, go-pin, go-unpark, go-unpin, posts_here}
-use Rattle.hybrid_laws.specs.Journals.{gone, gone_in}
 use Rattle.hybrid_laws.proofs.calls.Made.{go-answer, go-begin_vm, go-deliver, go-intake, go-interrupt, go-reap, go-run, go-script, go-trap, go-wait}
 use Rattle.hybrid_laws.proofs.calls.Taken.{go-fetch}
-use Rattle.hybrid_laws.specs.Lasting.{Lasting, MarksTold}
-use Rattle.hybrid_laws.proofs.memory.NewSide.{no-at}
 use Rattle.hybrid_laws.proofs.maps.Tests.{both}
+use Rattle.hybrid_laws.proofs.memory.NewSide.{no-at}
 use Rattle.hybrid_laws.proofs.trap.Says.{TrappedSays, trap-says}
+use Rattle.hybrid_laws.specs.Journals.{gone, gone_in}
+use Rattle.hybrid_laws.specs.Lasting.{Lasting, MarksTold}
 use Rattle.hybrid_model.specs.Claims.{posts_reply}
 use Rattle.hybrid_model.specs.Coherence.{OfProcess}
 use Rattle.hybrid_model.specs.Events.{ack_clear, act_file, after, after_here, copy, fetch_from, finish_here, may, may_here, miss, park_here, process_of_event, unpark_here}
@@ -17,8 +17,8 @@ use Rattle.hybrid_model.specs.Pairs.{Here, Pair, here, side_of, with_born, with_
 use Rattle.hybrid_model.specs.Rings.{ring}
 use Rattle.hybrid_model.specs.Sides.{Book, Caller, Side, new_side, no_book, serves}
 use Rattle.hybrid_model.specs.declared.events.Event.{Event}
-use Rattle.ikc_ring.specs.declared.Msg.{Msg}
 use Rattle.ikc_ring.specs.declared.Msg.TheVariants.{Ack, Answer, Clear, Fault, Interrupt, Reply, Request}
+use Rattle.ikc_ring.specs.declared.Msg.{Msg}
 use Rattle.kernel_model.specs.MemoryCalls.{refusal_at_end}
 use Rattle.kernel_model.specs.Nodes.{Process, change_in, is_there, process_of, thread_of}
 use Rattle.kernel_model.specs.Traps.{Begins, Changes, Done, Forks, Trapped, trap}

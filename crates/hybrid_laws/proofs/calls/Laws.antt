@@ -5,12 +5,12 @@ use Rattle.file_model.specs.Errno.{EINVAL, ENAMETOOLONG}
 use Rattle.file_model.specs.FileSteps.{file_step}
 use Rattle.file_model.specs.Files.{Files}
 use Rattle.file_model.specs.Operations.{FileResult}
-use Rattle.file_model.specs.declared.operations.FileOp.{FileOp}
 use Rattle.file_model.specs.declared.operations.FileOp.TheVariants.{Openat, Mkdirat, Unlinkat, Close, Lseek, Ioctl, Pipe2, Fstat, Getdents, Read as ReadAct, Write as WriteAct, Get, Put, Leave}
+use Rattle.file_model.specs.declared.operations.FileOp.{FileOp}
 use Rattle.hybrid_laws.proofs.calls.Steps.{act-find, act-plain, acts-rest, as-before, counted-most, ended, gives-back, is_act, settles}
-use Rattle.hybrid_laws.specs.CallSteps.{FoundHeld, StepCarries, Carries}
 use Rattle.hybrid_laws.proofs.files.Descriptions.{carries-beside, carries-same, carries-then}
 use Rattle.hybrid_laws.proofs.files.Operations.{FindStep, PlainStep, cond-case, find-read, find-write, plain-close, plain-fstat, plain-get, plain-getdents, plain-ioctl, plain-lseek, plain-mkdirat, plain-openat, plain-pipe2, plain-put, plain-unlinkat}
+use Rattle.hybrid_laws.specs.CallSteps.{Carries, FoundHeld, StepCarries}
 use Rattle.hybrid_model.specs.Globals.{IsUnderWay, acts_left, description_held}
 use Rattle.hybrid_model.specs.Tallies.{Each, counted}
 use Rattle.kernel_model.specs.Plans.{Gather, Scatter, Stream, act_of, delegated_calls, is_read, is_write, most_moved, has_path}

@@ -1,9 +1,9 @@
 -- What each event of the lightweight kernel leaves of a process's calls: a call that begins is not marked, and a mark goes with its Interrupt.
 use Rattle.hybrid_model.specs.declared.events.Event.TheVariants as Events
 use Rattle.hybrid_laws.proofs.calls.Go.{CallsGo, posts_none, stays, stays-same, told-by}
+use Rattle.hybrid_laws.proofs.maps.Reading.{sum-post}
 use Rattle.hybrid_laws.specs.Journals.{gone, gone_in}
 use Rattle.hybrid_laws.specs.Lasting.{IsTold, MarksTold}
-use Rattle.hybrid_laws.proofs.maps.Reading.{sum-post}
 use Rattle.hybrid_model.specs.Coherence.{OfProcess, interrupts_of}
 use Rattle.hybrid_model.specs.Events.{after_here}
 use Rattle.hybrid_model.specs.Linux.{is_ended_or_replied}
@@ -11,8 +11,8 @@ use Rattle.hybrid_model.specs.Lwk.{after_deliver, after_trap, answer_to, begin_c
 use Rattle.hybrid_model.specs.Pairs.{Here, ring_of, with_side}
 use Rattle.hybrid_model.specs.Sides.{Book, Caller, LinuxSide, Side, service_of, state_in, state_of}
 use Rattle.hybrid_model.specs.Tallies.{as_number, if_same, sum_rings}
-use Rattle.ikc_ring.specs.declared.Msg.{Msg}
 use Rattle.ikc_ring.specs.declared.Msg.TheVariants.{Ack, Answer, Clear, Fault, Interrupt, Reply, Request}
+use Rattle.ikc_ring.specs.declared.Msg.{Msg}
 use Rattle.kernel_model.specs.MemoryCalls.{closing_range, refusal_at_end}
 use Rattle.kernel_model.specs.Nodes.{change_in, process_of, thread_of}
 use Rattle.kernel_model.specs.Progress.{Progress}

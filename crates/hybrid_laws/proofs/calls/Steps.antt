@@ -1,5 +1,4 @@
 -- What a step of a delegated call does to the description that the call holds: it goes on to hold it, takes it at its one act, or gives it back where the call ends. And a call that goes on is sound after it.
-use Rattle.hybrid_laws.specs.CallSteps.{StepCarries, FoundHeld, Carries, calls_at}
 use Rattle.kernel_model.specs.Plans as Phases
 use Rattle.kernel_model.specs.Progress as Steps
 use Rattle.file_model.specs.Files.{Files}
@@ -7,6 +6,7 @@ use Rattle.file_model.specs.Operations.{FileResult}
 use Rattle.file_model.specs.declared.operations.FileOp.{FileOp}
 use Rattle.hybrid_laws.proofs.files.Descriptions.{carries-beside, carries-same, carries-then}
 use Rattle.hybrid_laws.proofs.files.Operations.{FindStep, FindsAt, PlainStep, carries-leave}
+use Rattle.hybrid_laws.specs.CallSteps.{Carries, FoundHeld, StepCarries, calls_at}
 use Rattle.hybrid_model.specs.Globals.{IsUnderWay, acts_left, description_held}
 use Rattle.hybrid_model.specs.Tallies.{counted}
 use Rattle.kernel_model.specs.Plans.{Gather, Scatter, Stream, act_of, delegated_calls}

@@ -2,8 +2,8 @@
 use Rattle.hybrid_model.specs.declared.events.Event.TheVariants as Events
 use Rattle.hybrid_laws.proofs.calls.Go.{CallsGo, callers-stay, posts_none, restated, service-put, stays, stays-same, told-by}
 use Rattle.hybrid_laws.proofs.fetch.Answer.{answered-for}
-use Rattle.hybrid_laws.specs.Lasting.{IsTold}
 use Rattle.hybrid_laws.proofs.maps.Reading.{first-of, sum-take}
+use Rattle.hybrid_laws.specs.Lasting.{IsTold}
 use Rattle.hybrid_model.specs.Coherence.{OfProcess, RequestIs, interrupts_of, is_fetched}
 use Rattle.hybrid_model.specs.Events.{after_here, fetch_from, with_fetched}
 use Rattle.hybrid_model.specs.Linux.{Fetched, fetch_clear, fetch_empty, fetch_interrupt, fetch_request, fetch_row, fetched_as, is_ended_or_replied, marked_for_linux, new_service}
@@ -12,8 +12,8 @@ use Rattle.hybrid_model.specs.Rings.{ring, with_ring}
 use Rattle.hybrid_model.specs.Sides.{Row, Service, Side, no_service, served, serves, service_of, state_in, state_of}
 use Rattle.hybrid_model.specs.Tallies.{as_number, if_same, sum_rings}
 use Rattle.ikc_ring.specs.declared.Call.{Call}
-use Rattle.ikc_ring.specs.declared.Msg.{Msg}
 use Rattle.ikc_ring.specs.declared.Msg.TheVariants.{Ack, Answer, Clear, Fault, Interrupt, Reply, Request}
+use Rattle.ikc_ring.specs.declared.Msg.{Msg}
 use Rattle.kernel_model.specs.Progress.{fault_answer}
 use Rattle.mck_word.specs.MapLaws.{at-put}
 use Rattle.mck_word.specs.Maps.{at}

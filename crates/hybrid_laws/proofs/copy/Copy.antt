@@ -1,9 +1,9 @@
 -- Copy keeps what holds of the process.
 use Rattle.hybrid_model.specs.declared.events.Event.TheVariants as Events
-use Rattle.hybrid_laws.proofs.requests.HeldStep.{held-row, served_step, state-facts}
-use Rattle.hybrid_laws.proofs.requests.OneRequest.{goes_on, files-any}
 use Rattle.hybrid_laws.proofs.maps.Reading.{reads-put}
 use Rattle.hybrid_laws.proofs.maps.Tests.{both, not-true}
+use Rattle.hybrid_laws.proofs.requests.HeldStep.{held-row, served_step, state-facts}
+use Rattle.hybrid_laws.proofs.requests.OneRequest.{files-any, goes_on}
 use Rattle.hybrid_model.specs.Claims.{Reaches}
 use Rattle.hybrid_model.specs.Coherence.{OfProcess, Covers, PinServes, acked_at, is_faulted, service_at}
 use Rattle.hybrid_model.specs.Events.{after_here, copy, may_here}
@@ -18,8 +18,8 @@ use Rattle.kernel_model.specs.Progress.{After, is_ready, needed_access}
 use Rattle.mck_word.specs.Maps.{at, put}
 use Rattle.mck_word.specs.declared.Pid.{Pid}
 use Rattle.page_pins.specs.declared.Pin.{Pin}
-use Rattle.request_book.specs.declared.ReqState.{ReqState}
 use Rattle.request_book.specs.declared.ReqState.TheVariants.{Held}
+use Rattle.request_book.specs.declared.ReqState.{ReqState}
 use Rattle.std.proofs.Common.{arith, refl, subst, ap, ◌∙◌}
 use Rattle.std.proofs.lemmas.Bool.Decides.{nat_tests}
 use Rattle.std.specs.Prelude.{Bool, Some, false, if◌then◌else◌, true, ℕ, ◌==◌, ◌≡◌, None, Option, nat_lt, ◌&&◌, ◌<◌}

@@ -5,10 +5,10 @@ use Rattle.kernel_model.specs.Steps as OneSteps
 use Rattle.hybrid_laws.proofs.copy.Copy.{MayCopy, may-copy}
 use Rattle.hybrid_laws.proofs.requests.HeldStep.{held-row}
 use Rattle.hybrid_laws.proofs.requests.Showing.{rows-put}
-use Rattle.hybrid_laws.proofs.states.Simulated.{simulated-one}
-use Rattle.hybrid_laws.specs.Simulated.{Simulated}
 use Rattle.hybrid_laws.proofs.requests.Speaking.{calls-after, shown-call-at, the-caller, thread-served-is}
 use Rattle.hybrid_laws.proofs.requests.Statuses.{put-other, put-own, status-if, status-others, status-own}
+use Rattle.hybrid_laws.proofs.states.Simulated.{simulated-one}
+use Rattle.hybrid_laws.specs.Simulated.{Simulated}
 use Rattle.hybrid_model.specs.Coherence.{Covers, OfProcess, PinServes}
 use Rattle.hybrid_model.specs.Events.{copy, may_here}
 use Rattle.hybrid_model.specs.Images.{one_step}

@@ -1,18 +1,18 @@
 -- Copy in the whole state.
 use Rattle.hybrid_model.specs.declared.events.Event.TheVariants as Events
 use Rattle.hybrid_laws.proofs.calls.Laws.{carries-piece}
-use Rattle.hybrid_laws.specs.CallSteps.{StepCarries}
 use Rattle.hybrid_laws.proofs.copy.Copy.{MayCopy, keeps_copy, may-copy, reaches_copy}
 use Rattle.hybrid_laws.proofs.copy.Shown.{simulates_copy}
-use Rattle.hybrid_laws.proofs.requests.HeldStep.{held-row}
 use Rattle.hybrid_laws.proofs.maps.Reading.{each-same}
+use Rattle.hybrid_laws.proofs.maps.Tests.{both}
+use Rattle.hybrid_laws.proofs.requests.HeldStep.{held-row}
 use Rattle.hybrid_laws.proofs.requests.Speaking.{the-thread, thread-served-is}
 use Rattle.hybrid_laws.proofs.requests.Statuses.{put-other, put-own, status-if, status-others, status-own}
-use Rattle.hybrid_laws.proofs.maps.Tests.{both}
 use Rattle.hybrid_laws.proofs.states.Pair.{has-side}
 use Rattle.hybrid_laws.proofs.states.Step.{coherent-step, found-held, under-way}
 use Rattle.hybrid_laws.proofs.states.Steps.{SimulatedPair, simulated-pair}
 use Rattle.hybrid_laws.proofs.states.Turns.{stated-other}
+use Rattle.hybrid_laws.specs.CallSteps.{StepCarries}
 use Rattle.hybrid_model.specs.Claims.{CopyReaches}
 use Rattle.hybrid_model.specs.Coherence.{Covers, OfProcess, PinServes}
 use Rattle.hybrid_model.specs.Events.{after, copy, may, may_here}

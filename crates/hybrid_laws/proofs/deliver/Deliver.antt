@@ -1,12 +1,12 @@
 -- Deliver keeps what holds of every process, and is the step Deliver of the one-kernel machine.
 use Rattle.kernel_model.specs.declared.steps.Step.TheVariants as Steps
 use Rattle.hybrid_model.specs.declared.events.Event.TheVariants as Events
+use Rattle.hybrid_laws.proofs.memory.ViewShown.{none-idle, none_free, shown-view}
 use Rattle.hybrid_laws.proofs.node.EventKeeps.{deliver-keeps}
 use Rattle.hybrid_laws.proofs.node.Keeps.{node-keeps}
 use Rattle.hybrid_laws.proofs.run.Run.{TableApart}
 use Rattle.hybrid_laws.proofs.states.Simulated.{simulated-one}
 use Rattle.hybrid_laws.specs.Simulated.{Simulated}
-use Rattle.hybrid_laws.proofs.memory.ViewShown.{none-idle, none_free, shown-view}
 use Rattle.hybrid_model.specs.Coherence.{OfProcess}
 use Rattle.hybrid_model.specs.Events.{after_here, may_here}
 use Rattle.hybrid_model.specs.Lwk.{after_deliver, view_here}

@@ -2,9 +2,9 @@
 use Rattle.hybrid_model.specs.declared.events.Event.TheVariants as Events
 use Rattle.hybrid_laws.proofs.calls.Closed.{deliver-closed}
 use Rattle.hybrid_laws.proofs.deliver.Deliver.{keeps_deliver, simulated_deliver}
+use Rattle.hybrid_laws.proofs.maps.Tests.{both, some-is}
 use Rattle.hybrid_laws.proofs.node.Goes.{GoesAwake, GoesOn, IsAwake, goes-closed}
 use Rattle.hybrid_laws.proofs.node.Sound.{is-awake}
-use Rattle.hybrid_laws.proofs.maps.Tests.{both, some-is}
 use Rattle.hybrid_laws.proofs.node.Threads.{ready-is, thread-is}
 use Rattle.hybrid_laws.proofs.states.Node.{coherent-later}
 use Rattle.hybrid_laws.proofs.states.Pair.{has-side}

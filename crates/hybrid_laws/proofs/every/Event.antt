@@ -2,12 +2,12 @@
 use Rattle.hybrid_model.specs.declared.events.Event.TheVariants as Events
 use Rattle.file_model.specs.Paths.{child}
 use Rattle.hybrid_laws.proofs.every.Linux.{holds_linux}
-use Rattle.hybrid_laws.specs.EventKinds.{is_of_linux, is_quiet_lwk}
 use Rattle.hybrid_laws.proofs.every.QuietLwk.{coherent_intake, holds_quiet_lwk, simulated_pair_intake}
 use Rattle.hybrid_laws.proofs.states.Steps.{SimulatedPair}
 use Rattle.hybrid_laws.proofs.trap.Whole.{coherent_trap_begins, coherent_trap_done, simulated_pair_trap_begins, simulated_pair_trap_done}
 use Rattle.hybrid_laws.proofs.trap.WholeChanges.{coherent_trap_changes, simulated_pair_trap_changes}
 use Rattle.hybrid_laws.proofs.trap.WholeForks.{coherent_trap_forks, simulated_pair_trap_forks}
+use Rattle.hybrid_laws.specs.EventKinds.{is_of_linux, is_quiet_lwk}
 use Rattle.hybrid_model.specs.Events.{after, may}
 use Rattle.hybrid_model.specs.Globals.{Coherent}
 use Rattle.hybrid_model.specs.Lwk.{view_here}

@@ -1,18 +1,18 @@
 -- Frames that Intake and Trap hand out.
 use Rattle.hybrid_model.specs.declared.events.Event.TheVariants as Events
 use Rattle.hybrid_laws.proofs.intake.Ack as ack
-use Rattle.clear_rounds.specs.declared.Phase.{Phase}
 use Rattle.clear_rounds.specs.declared.Phase.TheVariants.{Acked, Posted as RoundPosted, Taken}
-use Rattle.hybrid_laws.specs.OneProcess.{with_table}
-use Rattle.hybrid_laws.proofs.memory.FreshFrames.{Closed, NotAnswering, fresh-effect}
-use Rattle.hybrid_laws.proofs.intake.Ack.{AckStands, ack-is, fits_at_end, in-closing}
-use Rattle.hybrid_laws.proofs.intake.Intake.{by-message}
+use Rattle.clear_rounds.specs.declared.Phase.{Phase}
 use Rattle.hybrid_laws.proofs.every.Linux.{none-handed, tables-stay}
 use Rattle.hybrid_laws.proofs.every.QuietLwk.{coherent_intake, simulated_pair_intake}
+use Rattle.hybrid_laws.proofs.intake.Ack.{AckStands, ack-is, fits_at_end, in-closing}
+use Rattle.hybrid_laws.proofs.intake.Intake.{by-message}
+use Rattle.hybrid_laws.proofs.intake.WholeAck.{coherent_intake_ack}
 use Rattle.hybrid_laws.proofs.maps.Reading.{EachRing-both, EachRing-map}
 use Rattle.hybrid_laws.proofs.maps.Tests.{both, some-is}
-use Rattle.hybrid_laws.proofs.intake.WholeAck.{coherent_intake_ack}
+use Rattle.hybrid_laws.proofs.memory.FreshFrames.{Closed, NotAnswering, fresh-effect}
 use Rattle.hybrid_laws.proofs.states.Pair.{there-has}
+use Rattle.hybrid_laws.specs.OneProcess.{with_table}
 use Rattle.hybrid_model.specs.Claims.{HandsOutFresh, Holds}
 use Rattle.hybrid_model.specs.Coherence.{IsOutside, NotAhead, OfProcess, acked, acked_at, acks, is_acked_phase, is_posted_phase, phase_acked, phase_taken, posted, taken_at}
 use Rattle.hybrid_model.specs.Events.{after, may, may_here}
@@ -21,8 +21,8 @@ use Rattle.hybrid_model.specs.Lwk.{caller_of, changed, intake, memory_here, roun
 use Rattle.hybrid_model.specs.Pairs.{Here, Pair, here, put_here, side_of, with_born, with_side}
 use Rattle.hybrid_model.specs.Sides.{Round, Side, closes, new_side}
 use Rattle.hybrid_model.specs.Tallies.{tally}
-use Rattle.ikc_ring.specs.declared.Msg.{Msg}
 use Rattle.ikc_ring.specs.declared.Msg.TheVariants.{Ack, Answer, Clear, Fault, Interrupt, Reply, Request}
+use Rattle.ikc_ring.specs.declared.Msg.{Msg}
 use Rattle.kernel_model.specs.MemoryCalls.{Effect, closing_range, effect_of, refusal_at_end}
 use Rattle.kernel_model.specs.Nodes.{Process, is_there, no_process, process_of}
 use Rattle.kernel_model.specs.Pages.{pages_count}

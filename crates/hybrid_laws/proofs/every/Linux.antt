@@ -1,5 +1,4 @@
 -- What holds of each event of the Linux side in a coherent state: coherence is kept, its image is a run of the one-kernel machine, a copy reaches the frame that the table gives, and no frame is handed out.
-use Rattle.hybrid_laws.specs.EventKinds.{is_of_linux}
 use Rattle.hybrid_model.specs.declared.events.Event.TheVariants as Events
 use Rattle.hybrid_laws.proofs.ack_clear.Whole.{coherent_ack_clear, simulated_ack_clear}
 use Rattle.hybrid_laws.proofs.act.Whole.{coherent_act, simulated_act}
@@ -12,6 +11,7 @@ use Rattle.hybrid_laws.proofs.park.Whole.{coherent_park, simulated_park}
 use Rattle.hybrid_laws.proofs.pin.Whole.{coherent_pin, simulated_pin}
 use Rattle.hybrid_laws.proofs.unpark.Whole.{coherent_unpark, simulated_unpark}
 use Rattle.hybrid_laws.proofs.unpin.Whole.{coherent_unpin, simulated_unpin}
+use Rattle.hybrid_laws.specs.EventKinds.{is_of_linux}
 use Rattle.hybrid_model.specs.Claims.{HandsOutFresh, Holds}
 use Rattle.hybrid_model.specs.Events.{ack_clear, act_file, after, after_here, copy, fetch_from, finish_here, may, miss, park_here, process_of_event, unpark_here}
 use Rattle.hybrid_model.specs.Globals.{Coherent, table_of}

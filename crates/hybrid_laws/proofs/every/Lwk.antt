@@ -1,10 +1,10 @@
 -- What holds of each event of the lightweight kernel in a coherent state.
 use Rattle.hybrid_model.specs.declared.events.Event.TheVariants as Events
 use Rattle.hybrid_laws.proofs.every.HandsOutLwk.{holds_intake}
-use Rattle.hybrid_laws.proofs.trap.HandsOut.{handed_trap}
-use Rattle.hybrid_laws.proofs.journal.Journal.{EachLwkEvent}
 use Rattle.hybrid_laws.proofs.every.QuietLwk.{holds_quiet_lwk}
+use Rattle.hybrid_laws.proofs.journal.Journal.{EachLwkEvent}
 use Rattle.hybrid_laws.proofs.states.Steps.{SimulatedPair}
+use Rattle.hybrid_laws.proofs.trap.HandsOut.{handed_trap}
 use Rattle.hybrid_laws.proofs.trap.Whole.{coherent_trap_begins, coherent_trap_done, simulated_pair_trap_begins, simulated_pair_trap_done}
 use Rattle.hybrid_laws.proofs.trap.WholeChanges.{coherent_trap_changes, simulated_pair_trap_changes}
 use Rattle.hybrid_laws.proofs.trap.WholeForks.{coherent_trap_forks, simulated_pair_trap_forks}

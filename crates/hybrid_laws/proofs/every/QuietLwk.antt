@@ -1,23 +1,23 @@
 -- Events of the lightweight kernel that give no page a frame, whole: coherence, simulation, no frame handed out.
-use Rattle.hybrid_laws.specs.EventKinds.{is_quiet_lwk}
 use Rattle.hybrid_model.specs.declared.events.Event.TheVariants as Events
-use Rattle.hybrid_laws.proofs.intake.Intake.{by-message}
-use Rattle.hybrid_laws.proofs.every.Linux.{none-handed, tables-stay}
-use Rattle.hybrid_laws.proofs.maps.Tests.{both}
 use Rattle.hybrid_laws.proofs.answer.WholeEmpty.{coherent_answer_empty, simulated_pair_answer_empty}
 use Rattle.hybrid_laws.proofs.answer.WholeRow.{coherent_answer_row, simulated_pair_answer_row}
 use Rattle.hybrid_laws.proofs.begin_vm.Whole.{coherent_begin_vm, simulated_pair_begin_vm}
 use Rattle.hybrid_laws.proofs.deliver.Whole.{coherent_deliver, simulated_pair_deliver}
+use Rattle.hybrid_laws.proofs.every.Linux.{none-handed, tables-stay}
+use Rattle.hybrid_laws.proofs.intake.Intake.{by-message}
 use Rattle.hybrid_laws.proofs.intake.WholeAck.{coherent_intake_ack, simulated_pair_ack}
 use Rattle.hybrid_laws.proofs.intake.WholeFault.{coherent_intake_fault, simulated_pair_fault}
 use Rattle.hybrid_laws.proofs.intake.WholeReply.{coherent_intake_reply, simulated_pair_reply}
 use Rattle.hybrid_laws.proofs.interrupt.Whole.{coherent_interrupt, simulated_pair_interrupt}
+use Rattle.hybrid_laws.proofs.maps.Tests.{both}
 use Rattle.hybrid_laws.proofs.reap.Whole.{coherent_reap, simulated_pair_reap}
 use Rattle.hybrid_laws.proofs.run.Whole.{coherent_run}
 use Rattle.hybrid_laws.proofs.run.WholeSteps.{simulated_pair_run}
 use Rattle.hybrid_laws.proofs.script.Whole.{coherent_script, simulated_pair_script}
 use Rattle.hybrid_laws.proofs.states.Steps.{SimulatedPair}
 use Rattle.hybrid_laws.proofs.wait.Whole.{coherent_wait, simulated_pair_wait}
+use Rattle.hybrid_laws.specs.EventKinds.{is_quiet_lwk}
 use Rattle.hybrid_model.specs.Claims.{HandsOutFresh, Holds}
 use Rattle.hybrid_model.specs.Events.{after, after_here, may, may_here, process_of_event}
 use Rattle.hybrid_model.specs.Globals.{Coherent, table_of}

@@ -1,21 +1,21 @@
 -- Fetch of an answer: the whole process, and what is shown.
 use Rattle.hybrid_laws.proofs.fetch.Answer.{answered-for, covered-install, covered-take, not-taken, rounded-install, rounded-take, served_answer}
-use Rattle.hybrid_laws.proofs.rings.InRings.{InRings, in_rings, rings-services, rings-take}
-use Rattle.hybrid_laws.proofs.requests.OneRequest.{with_messages}
 use Rattle.hybrid_laws.proofs.maps.Reading.{first-of, reads-put}
+use Rattle.hybrid_laws.proofs.requests.OneRequest.{with_messages}
+use Rattle.hybrid_laws.proofs.rings.InRings.{InRings, in_rings, rings-services, rings-take}
 use Rattle.hybrid_model.specs.Coherence.{OfProcess, Covered, Rounded, AnswerCovered, IsOutside, NotAhead, is_fetched, is_posted, state_at, service_at}
 use Rattle.hybrid_model.specs.Linux.{fetch_row, fetch_empty, installed}
 use Rattle.hybrid_model.specs.Rings.{ring, with_ring}
 use Rattle.hybrid_model.specs.Sides.{Side, Row, Service, service_of, with_state, LinuxSide}
 use Rattle.hybrid_model.specs.Tallies.{Reads, with_at}
 use Rattle.ikc_ring.specs.declared.Call.{Call}
-use Rattle.ikc_ring.specs.declared.Msg.{Msg}
 use Rattle.ikc_ring.specs.declared.Msg.TheVariants.{Answer}
+use Rattle.ikc_ring.specs.declared.Msg.{Msg}
 use Rattle.kernel_model.specs.Nodes.{Node}
 use Rattle.kernel_model.specs.Progress.{fault_answer}
 use Rattle.mck_word.specs.Maps.{Map, at, put}
-use Rattle.request_book.specs.declared.ReqState.{ReqState}
 use Rattle.request_book.specs.declared.ReqState.TheVariants.{Held, Faulted, Ended}
+use Rattle.request_book.specs.declared.ReqState.{ReqState}
 use Rattle.std.proofs.Common.{arith, refl}
 use Rattle.std.proofs.lemmas.Bool.Decides.{nat_tests}
 use Rattle.std.specs.Prelude.{Bool, List, Option, Some, false, is_some, nat_lt, true, ℕ, ℤ, ◌∷◌, ◌≡◌, ◌≤◌}

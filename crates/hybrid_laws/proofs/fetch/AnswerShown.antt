@@ -9,14 +9,14 @@ use Rattle.hybrid_model.specs.Shown.{has_empty, serves_it, status_by, status_in,
 use Rattle.hybrid_model.specs.Sides.{Side, Row, Service, no_service, state_in, call_in, service_of, with_state, Noted}
 use Rattle.hybrid_model.specs.Tallies.{Reads, with_at, sum_rings}
 use Rattle.ikc_ring.specs.declared.Call.{Call}
-use Rattle.ikc_ring.specs.declared.Msg.{Msg}
 use Rattle.ikc_ring.specs.declared.Msg.TheVariants.{Answer}
+use Rattle.ikc_ring.specs.declared.Msg.{Msg}
 use Rattle.kernel_model.specs.Nodes.{Node}
 use Rattle.kernel_model.specs.Progress.{fault_answer}
 use Rattle.mck_word.specs.Maps.{Map, at, put}
 use Rattle.page_pins.specs.declared.Pin.{Pin}
-use Rattle.request_book.specs.declared.ReqState.{ReqState}
 use Rattle.request_book.specs.declared.ReqState.TheVariants.{Held, Faulted, Ended}
+use Rattle.request_book.specs.declared.ReqState.{ReqState}
 use Rattle.std.proofs.Common.{ap, arith, refl, sym, ◌∙◌}
 use Rattle.std.proofs.lemmas.Bool.Decides.{nat_tests}
 use Rattle.std.specs.Prelude.{Bool, List, None, Option, Some, false, if◌then◌else◌, nat_lt, true, unwrap_or, ℕ, ◌==◌, ◌∷◌, ◌≡◌}

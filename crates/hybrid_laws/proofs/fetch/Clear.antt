@@ -1,10 +1,10 @@
 -- Fetch of a Clear keeps what holds of the process, and shows nothing: the mirror's rows of its range go, and the round is Taken.
-use Rattle.clear_rounds.specs.declared.Phase.{Phase}
 use Rattle.clear_rounds.specs.declared.Phase.TheVariants.{Posted as RoundPosted, Taken}
-use Rattle.hybrid_laws.proofs.rings.InRings.{in_rings, rings-take}
+use Rattle.clear_rounds.specs.declared.Phase.{Phase}
 use Rattle.hybrid_laws.proofs.maps.Reading.{EachRing-map, EachRing-take, EachRing-where, first-of, reads-keep, sum-take}
 use Rattle.hybrid_laws.proofs.requests.Showing.{has_empty-take}
 use Rattle.hybrid_laws.proofs.requests.Silent.{shown-silent}
+use Rattle.hybrid_laws.proofs.rings.InRings.{in_rings, rings-take}
 use Rattle.hybrid_laws.proofs.rings.Taking.{taken-served}
 use Rattle.hybrid_model.specs.Coherence.{AnswerCovered, ClearIsOf, Covered, Covers, IsOutside, NotAhead, OfProcess, Owned, Rounded, clears}
 use Rattle.hybrid_model.specs.Events.{with_fetched}
@@ -14,8 +14,8 @@ use Rattle.hybrid_model.specs.Rings.{ring, with_ring}
 use Rattle.hybrid_model.specs.Shown.{reply_code, shown_here, status_in}
 use Rattle.hybrid_model.specs.Sides.{Round, Row, Side, call_in, service_of, state_in}
 use Rattle.hybrid_model.specs.Tallies.{Reads, sum_rings}
-use Rattle.ikc_ring.specs.declared.Msg.{Msg}
 use Rattle.ikc_ring.specs.declared.Msg.TheVariants.{Ack, Answer, Clear, Fault, Interrupt, Reply, Request}
+use Rattle.ikc_ring.specs.declared.Msg.{Msg}
 use Rattle.kernel_model.specs.Nodes.{Node, Process, Thread, process_of}
 use Rattle.mck_word.specs.Maps.{at}
 use Rattle.mck_word.specs.Pages.{in_range}

@@ -1,11 +1,11 @@
 -- Fetch keeps what holds of the process, and shows nothing, whichever message stands first in the ring.
 use Rattle.hybrid_model.specs.declared.events.Event.TheVariants as Events
+use Rattle.hybrid_laws.proofs.fetch.AnswerKeeps.{keeps_fetch_empty, keeps_fetch_row}
+use Rattle.hybrid_laws.proofs.fetch.AnswerShown.{image_fetch_empty, image_fetch_row}
 use Rattle.hybrid_laws.proofs.fetch.Clear.{image_fetch_clear, keeps_fetch_clear}
 use Rattle.hybrid_laws.proofs.fetch.Interrupt.{image_fetch_interrupt, keeps_fetch_interrupt}
 use Rattle.hybrid_laws.proofs.fetch.Request.{keeps_fetch_request}
 use Rattle.hybrid_laws.proofs.fetch.RequestShown.{image_fetch_request}
-use Rattle.hybrid_laws.proofs.fetch.AnswerShown.{image_fetch_empty, image_fetch_row}
-use Rattle.hybrid_laws.proofs.fetch.AnswerKeeps.{keeps_fetch_empty, keeps_fetch_row}
 use Rattle.hybrid_laws.proofs.maps.Reading.{first-of}
 use Rattle.hybrid_laws.proofs.requests.Silent.{shown-as}
 use Rattle.hybrid_laws.proofs.states.Simulated.{simulated-none}
@@ -15,8 +15,8 @@ use Rattle.hybrid_model.specs.Events.{after_here, fetch_from}
 use Rattle.hybrid_model.specs.Pairs.{Here}
 use Rattle.hybrid_model.specs.Rings.{ring}
 use Rattle.hybrid_model.specs.Shown.{shown_here}
-use Rattle.ikc_ring.specs.declared.Msg.{Msg}
 use Rattle.ikc_ring.specs.declared.Msg.TheVariants.{Ack, Answer, Clear, Fault, Interrupt, Reply, Request}
+use Rattle.ikc_ring.specs.declared.Msg.{Msg}
 use Rattle.kernel_model.specs.Pages.{range}
 use Rattle.mck_word.specs.declared.Pid.{Pid}
 use Rattle.std.proofs.Common.{arith, refl}

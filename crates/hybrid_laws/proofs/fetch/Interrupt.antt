@@ -1,9 +1,9 @@
 -- Fetch of an Interrupt keeps what holds of the process, and shows nothing: the service of its request is marked, or it is dropped.
-use Rattle.hybrid_laws.proofs.rings.Placing.{Marked-take}
 use Rattle.hybrid_laws.proofs.maps.Reading.{EachRing-take, reads-put, sum-take}
 use Rattle.hybrid_laws.proofs.requests.Requests.{IsForNext-keeps, PinServes-keeps, answers-keep, directions-take, faults-keep, noted-keep}
 use Rattle.hybrid_laws.proofs.requests.Showing.{has_empty-take}
 use Rattle.hybrid_laws.proofs.requests.Silent.{shown-silent}
+use Rattle.hybrid_laws.proofs.rings.Placing.{Marked-take}
 use Rattle.hybrid_laws.proofs.rings.Taking.{taken-covered, taken-rounded, taken-served}
 use Rattle.hybrid_model.specs.Coherence.{AtMostInterrupt, AtMostRequest, InterruptIs, IsForNext, IsPart, Marked, Messages, OfProcess, OnlyOwn, Placed, RequestIs, Served, holder, interrupts_of, is_fetched, is_posted, of_place, service_at, state_at}
 use Rattle.hybrid_model.specs.Events.{with_fetched}
@@ -14,8 +14,8 @@ use Rattle.hybrid_model.specs.Shown.{has_empty, reply_code, shown_here, status_b
 use Rattle.hybrid_model.specs.Sides.{Caller, Noted, Service, Side, call_in, no_service, service_of, state_in, state_of}
 use Rattle.hybrid_model.specs.Tallies.{EachNumbered, Reads, as_number, if_same, with_at}
 use Rattle.ikc_ring.specs.declared.Call.{Call}
-use Rattle.ikc_ring.specs.declared.Msg.{Msg}
 use Rattle.ikc_ring.specs.declared.Msg.TheVariants.{Ack, Answer, Clear, Fault, Interrupt, Reply, Request}
+use Rattle.ikc_ring.specs.declared.Msg.{Msg}
 use Rattle.kernel_model.specs.Nodes.{Node, Thread}
 use Rattle.kernel_model.specs.OneKernel.{Active, Blocked, Over}
 use Rattle.kernel_model.specs.Progress.{Progress}
@@ -23,8 +23,8 @@ use Rattle.mck_word.specs.Maps.{Map, at, put}
 use Rattle.mck_word.specs.declared.Access.{Access}
 use Rattle.mck_word.specs.declared.Req.{Req}
 use Rattle.page_pins.specs.declared.Pin.{Pin}
-use Rattle.request_book.specs.declared.ReqState.{ReqState}
 use Rattle.request_book.specs.declared.ReqState.TheVariants.{Ended, Faulted, Held, Parked, Posted, Replied, Waiting}
+use Rattle.request_book.specs.declared.ReqState.{ReqState}
 use Rattle.std.proofs.Common.{ap, arith, refl, sym, ◌∙◌}
 use Rattle.std.proofs.lemmas.Bool.Decides.{nat_tests}
 use Rattle.std.specs.Prelude.{Bool, List, Some, [], false, if◌then◌else◌, is_some, suc, true, unwrap_or, zero, ℕ, ℤ, ◌==◌, ◌∷◌, ◌≡◌, ◌≤◌}

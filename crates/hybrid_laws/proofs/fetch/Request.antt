@@ -1,21 +1,21 @@
 -- Fetch of a Request keeps what holds of the process.
+use Rattle.hybrid_laws.proofs.maps.Reading.{Each-map, EachRing-take, EachRing-where, first-of, reads-put, reads-stated, sum-take, tally-push}
+use Rattle.hybrid_laws.proofs.requests.Requests.{Answered-state, IsForNext-keeps, PinServes-keeps, answers-keep, directions-take, faults-keep, interrupts-state, live-state, noted-keep, tid-state}
 use Rattle.hybrid_laws.proofs.rings.Placing.{Marked-take}
-use Rattle.hybrid_laws.proofs.maps.Reading.{EachRing-take, EachRing-where, sum-take, tally-push, Each-map, first-of, reads-put, reads-stated}
-use Rattle.hybrid_laws.proofs.requests.Requests.{IsForNext-keeps, PinServes-keeps, answers-keep, faults-keep, noted-keep, Answered-state, directions-take, interrupts-state, live-state, tid-state}
 use Rattle.hybrid_model.specs.Coherence.{Covered, Rounded, Served, Answered, IsForNext, AnswerCovered, AnswerIsFor, AtMostInterrupt, ClearIsOf, InOwnRing, IsOutside, IsPart, NotAhead, RequestIs, answers_to, asks, clears, is_live, is_posted, of_place, place_in, state_at, tid_in, Marked, Messages, OnlyOwn, Placed, OfProcess, InterruptIs}
 use Rattle.hybrid_model.specs.Linux.{fetch_request, new_service}
 use Rattle.hybrid_model.specs.Rings.{ring, with_ring}
 use Rattle.hybrid_model.specs.Sides.{Row, Round, Noted, Service, Caller, state_in, Side, no_service}
 use Rattle.hybrid_model.specs.Tallies.{Reads, with_at, sum_rings, EachRing, EachNumbered, if_same}
 use Rattle.ikc_ring.specs.declared.Call.{Call}
-use Rattle.ikc_ring.specs.declared.Msg.{Msg}
 use Rattle.ikc_ring.specs.declared.Msg.TheVariants.{Request, Clear, Answer, Interrupt, Reply, Ack, Fault}
+use Rattle.ikc_ring.specs.declared.Msg.{Msg}
 use Rattle.kernel_model.specs.Nodes.{Thread, Node}
 use Rattle.mck_word.specs.Maps.{at}
 use Rattle.mck_word.specs.declared.Access.{Access}
 use Rattle.page_pins.specs.declared.Pin.{Pin}
-use Rattle.request_book.specs.declared.ReqState.{ReqState}
 use Rattle.request_book.specs.declared.ReqState.TheVariants.{Posted, Waiting}
+use Rattle.request_book.specs.declared.ReqState.{ReqState}
 use Rattle.std.proofs.Common.{ap, arith, refl, subst, sym, ◌∙◌}
 use Rattle.std.proofs.lemmas.Bool.Decides.{nat_tests}
 use Rattle.std.specs.Prelude.{zero, suc, Bool, List, Option, Some, [], false, if◌then◌else◌, true, ℕ, ◌++◌, ◌+◌, ◌<◌, ◌==◌, ◌∷◌, ◌≡◌, ◌≢◌, unwrap_or}

@@ -9,12 +9,12 @@ use Rattle.hybrid_model.specs.Shown.{has_empty, status_by, status_in, shown_own,
 use Rattle.hybrid_model.specs.Sides.{Side, Service, no_service, state_in, call_in, with_state}
 use Rattle.hybrid_model.specs.Tallies.{Reads, with_at}
 use Rattle.ikc_ring.specs.declared.Call.{Call}
-use Rattle.ikc_ring.specs.declared.Msg.{Msg}
 use Rattle.ikc_ring.specs.declared.Msg.TheVariants.{Request}
+use Rattle.ikc_ring.specs.declared.Msg.{Msg}
 use Rattle.kernel_model.specs.Nodes.{Node}
 use Rattle.mck_word.specs.Maps.{Map, at, put}
-use Rattle.request_book.specs.declared.ReqState.{ReqState}
 use Rattle.request_book.specs.declared.ReqState.TheVariants.{Posted, Waiting}
+use Rattle.request_book.specs.declared.ReqState.{ReqState}
 use Rattle.std.proofs.Common.{ap, arith, refl}
 use Rattle.std.proofs.lemmas.Bool.Decides.{nat_tests}
 use Rattle.std.specs.Prelude.{Bool, List, Some, [], false, if◌then◌else◌, true, unwrap_or, ℕ, ◌++◌, ◌==◌, ◌∷◌, ◌≡◌}

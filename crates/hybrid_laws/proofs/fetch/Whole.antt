@@ -1,10 +1,10 @@
 -- Fetch in the whole state.
 use Rattle.hybrid_model.specs.declared.events.Event.TheVariants as Events
-use Rattle.hybrid_laws.proofs.fetch.Fetch.{goes, keeps_any, shows_any, simulates_fetch}
 use Rattle.hybrid_laws.proofs.fetch.AnswerKeeps.{found}
+use Rattle.hybrid_laws.proofs.fetch.Fetch.{goes, keeps_any, shows_any, simulates_fetch}
 use Rattle.hybrid_laws.proofs.maps.Reading.{first-of}
-use Rattle.hybrid_laws.proofs.requests.Statuses.{put-other}
 use Rattle.hybrid_laws.proofs.maps.Tests.{both}
+use Rattle.hybrid_laws.proofs.requests.Statuses.{put-other}
 use Rattle.hybrid_laws.proofs.states.Pair.{has-side}
 use Rattle.hybrid_laws.proofs.states.Silent.{coherent-silent, turns-stay}
 use Rattle.hybrid_laws.proofs.states.Steps.{SimulatedPair, simulated-pair}
@@ -18,8 +18,8 @@ use Rattle.hybrid_model.specs.Rings.{ring, with_ring}
 use Rattle.hybrid_model.specs.Shown.{shown_own}
 use Rattle.hybrid_model.specs.Sides.{Book, Row, Service, no_service, service_of, state_in, state_of}
 use Rattle.ikc_ring.specs.declared.Call.{Call}
-use Rattle.ikc_ring.specs.declared.Msg.{Msg}
 use Rattle.ikc_ring.specs.declared.Msg.TheVariants.{Ack, Answer, Clear, Fault, Interrupt, Reply, Request}
+use Rattle.ikc_ring.specs.declared.Msg.{Msg}
 use Rattle.kernel_model.specs.Nodes.{is_there}
 use Rattle.kernel_model.specs.OneKernel.{OneHere}
 use Rattle.kernel_model.specs.Progress.{fault_answer}
@@ -28,8 +28,8 @@ use Rattle.mck_word.specs.Maps.{Map, at}
 use Rattle.mck_word.specs.declared.PageRange.{PageRange}
 use Rattle.mck_word.specs.declared.Pid.{Pid}
 use Rattle.mck_word.specs.declared.Req.{Req}
-use Rattle.request_book.specs.declared.ReqState.{ReqState}
 use Rattle.request_book.specs.declared.ReqState.TheVariants.{Ended, Faulted, Held, Posted, Waiting}
+use Rattle.request_book.specs.declared.ReqState.{ReqState}
 use Rattle.std.proofs.Common.{ap, arith, refl, sym, ◌∙◌}
 use Rattle.std.proofs.lemmas.Bool.Decides.{nat_tests}
 use Rattle.std.specs.Prelude.{Bool, List, None, Option, Some, [], cond, false, length, suc, true, unwrap_or, zero, ℕ, ◌==◌, ◌∷◌, ◌≡◌}

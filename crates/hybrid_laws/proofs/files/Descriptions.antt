@@ -1,7 +1,7 @@
 -- How the calls that hold a description are counted, where the descriptions change.
-use Rattle.hybrid_laws.specs.CallSteps.{holds_it, Carries}
 use Rattle.file_model.specs.Files.{no_description}
 use Rattle.file_model.specs.declared.descriptions.Description.{Description}
+use Rattle.hybrid_laws.specs.CallSteps.{Carries, holds_it}
 use Rattle.mck_word.specs.MapLaws.{at-collect, at-put}
 use Rattle.mck_word.specs.Maps.{Map, and_then, at, change, change_row, collect, put}
 use Rattle.std.proofs.Common.{ap, arith, inl, inr, refl, subst, sym, ◌∙◌}

@@ -7,13 +7,13 @@ use Rattle.file_model.specs.Operations.{FileResult, done, fails}
 use Rattle.file_model.specs.Paths.{Absent, NoPlace, Place, Present, ends_with_slash, is_unlinked, names_of, place_of, place_of_names}
 use Rattle.file_model.specs.Streams.{bytes_there, cut_at, get_piece, got, moved_on, put_bytes, put_piece, read_offset, with_bytes_at, write_error, write_offset, write_ready}
 use Rattle.file_model.specs.declared.descriptions.Description.{Description}
-use Rattle.file_model.specs.declared.descriptions.Target.{Target}
 use Rattle.file_model.specs.declared.descriptions.Target.TheVariants.{OfNode, ReadEnd, WriteEnd, OfConsole}
-use Rattle.file_model.specs.declared.operations.Readiness.{Readiness}
+use Rattle.file_model.specs.declared.descriptions.Target.{Target}
 use Rattle.file_model.specs.declared.operations.Readiness.TheVariants.{Ready, NotReady, FileStep}
+use Rattle.file_model.specs.declared.operations.Readiness.{Readiness}
 use Rattle.hybrid_laws.proofs.files.Descriptions.{carries-keep, carries-new, carries-one, carries-same, carries-set, carries-then}
-use Rattle.hybrid_laws.specs.CallSteps.{Carries, calls_at, holds_it}
 use Rattle.hybrid_laws.proofs.maps.LowestFree.{free-key}
+use Rattle.hybrid_laws.specs.CallSteps.{Carries, calls_at, holds_it}
 use Rattle.mck_word.specs.Lists.{all_but_last}
 use Rattle.mck_word.specs.Maps.{count, Map, at, change, cut, put}
 use Rattle.std.proofs.Common.{arith, refl, subst, sym}

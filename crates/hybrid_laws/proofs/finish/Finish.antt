@@ -1,15 +1,15 @@
 -- Finish keeps what holds of the process, and shows nothing: the request leaves the book, and its one Reply goes back.
 use Rattle.hybrid_model.specs.declared.events.Event.TheVariants as Events
-use Rattle.hybrid_laws.proofs.rings.Back.{Rounded-back, other-request}
-use Rattle.hybrid_laws.proofs.requests.Leaving.{Messages-fewer, no-reply}
 use Rattle.hybrid_laws.proofs.maps.Reading.{Each-map, Each-push, Each-where, EachRing-where, reads-cut, tally-push}
+use Rattle.hybrid_laws.proofs.maps.Tests.{both, no-none}
+use Rattle.hybrid_laws.proofs.requests.Leaving.{Messages-fewer, no-reply}
 use Rattle.hybrid_laws.proofs.requests.Requests.{IsForNext-keeps, PinServes-keeps, asked-state, directions-back, interrupts-state}
 use Rattle.hybrid_laws.proofs.requests.Serving.{Serves, ended-it}
 use Rattle.hybrid_laws.proofs.requests.Showing.{has_empty-same}
 use Rattle.hybrid_laws.proofs.requests.Silent.{code-other, code-own, serves-other, shown-silent, status-one}
+use Rattle.hybrid_laws.proofs.rings.Back.{Rounded-back, other-request}
 use Rattle.hybrid_laws.proofs.states.Simulated.{simulated-none}
 use Rattle.hybrid_laws.specs.Simulated.{Simulated}
-use Rattle.hybrid_laws.proofs.maps.Tests.{both, no-none}
 use Rattle.hybrid_model.specs.Coherence.{AnswerIsFor, Answered, FaultIsFor, IsAwaited, IsForNext, OfProcess, ReplyIsAwaited, Served, answers_to, calls_it, faults_of, is_live, is_posted, replies_to, service_at, state_at, tid_in}
 use Rattle.hybrid_model.specs.Events.{after_here, finish_here, may_here}
 use Rattle.hybrid_model.specs.Linux.{finish, has_pin, is_ended_request, may_finish}
@@ -18,15 +18,15 @@ use Rattle.hybrid_model.specs.Shown.{status_of}
 use Rattle.hybrid_model.specs.Sides.{Caller, Noted, Service, Side, no_service, serves, service_of, state_of}
 use Rattle.hybrid_model.specs.Tallies.{Reads, counted, if_same, sum_rings, tally, with_at}
 use Rattle.ikc_ring.specs.declared.Call.{Call}
-use Rattle.ikc_ring.specs.declared.Msg.{Msg}
 use Rattle.ikc_ring.specs.declared.Msg.TheVariants.{Ack, Answer, Clear, Fault, Interrupt, Reply, Request}
+use Rattle.ikc_ring.specs.declared.Msg.{Msg}
 use Rattle.kernel_model.specs.OneKernel.{Over}
 use Rattle.mck_word.specs.Maps.{at, cut}
 use Rattle.mck_word.specs.declared.Access.{Access}
 use Rattle.mck_word.specs.declared.Pid.{Pid}
 use Rattle.page_pins.specs.declared.Pin.{Pin}
-use Rattle.request_book.specs.declared.ReqState.{ReqState}
 use Rattle.request_book.specs.declared.ReqState.TheVariants.{Ended}
+use Rattle.request_book.specs.declared.ReqState.{ReqState}
 use Rattle.std.proofs.Common.{ap, arith, refl}
 use Rattle.std.proofs.lemmas.Bool.Decides.{nat_tests}
 use Rattle.std.specs.Prelude.{Bool, List, None, Option, Some, [], false, if◌then◌else◌, is_some, nat_lt, not, true, unwrap_or, ℕ, ℤ, ◌&&◌, ◌++◌, ◌+◌, ◌<◌, ◌==◌, ◌∷◌, ◌≡◌, ◌≢◌}

@@ -3,16 +3,16 @@ use Rattle.kernel_model.specs.Steps as OneSteps
 use Rattle.kernel_model.specs.declared.steps.Step.TheVariants as Steps
 use Rattle.hybrid_model.specs.declared.events.Event.TheVariants as Events
 use Rattle.file_model.specs.Errno.{ENOMEM}
+use Rattle.hybrid_laws.proofs.intake.RoundOver.{keeps_round_over}
+use Rattle.hybrid_laws.proofs.maps.Reading.{each-same}
 use Rattle.hybrid_laws.proofs.memory.Effects.{length-dropped, outside_effect, shown_effect}
-use Rattle.hybrid_laws.specs.OneProcess.{FramesOf}
 use Rattle.hybrid_laws.proofs.node.EventKeeps.{set_break-keeps}
 use Rattle.hybrid_laws.proofs.node.Keeps.{Keeps, is_pinned, node-keeps}
 use Rattle.hybrid_laws.proofs.node.Primitives.{finishes-free, then}
-use Rattle.hybrid_laws.proofs.maps.Reading.{each-same}
-use Rattle.hybrid_laws.proofs.intake.RoundOver.{keeps_round_over}
-use Rattle.hybrid_laws.proofs.states.Simulated.{simulated-one}
-use Rattle.hybrid_laws.specs.Simulated.{Simulated}
 use Rattle.hybrid_laws.proofs.node.Threads.{thread-is}
+use Rattle.hybrid_laws.proofs.states.Simulated.{simulated-one}
+use Rattle.hybrid_laws.specs.OneProcess.{FramesOf}
+use Rattle.hybrid_laws.specs.Simulated.{Simulated}
 use Rattle.hybrid_model.specs.Coherence.{OfProcess, Owns, acked, acks}
 use Rattle.hybrid_model.specs.Events.{after_here}
 use Rattle.hybrid_model.specs.Globals.{HeapHolds}
@@ -23,16 +23,16 @@ use Rattle.hybrid_model.specs.Shown.{shown_born, shown_call, shown_here}
 use Rattle.hybrid_model.specs.Sides.{Round, Row, Side}
 use Rattle.hybrid_model.specs.Spaces.{Space, after_effect, drop_page, shown_memory}
 use Rattle.hybrid_model.specs.Tallies.{Reads, tally}
-use Rattle.ikc_ring.specs.declared.Msg.{Msg}
 use Rattle.ikc_ring.specs.declared.Msg.TheVariants.{Ack}
+use Rattle.ikc_ring.specs.declared.Msg.{Msg}
 use Rattle.isa_model.specs.Memory.{Memory}
 use Rattle.kernel_model.specs.MemoryCalls.{answer_of_change, closing_range, count_present, effect_of, exceeds, most_heap, nothing, refusal_at_end}
 use Rattle.kernel_model.specs.Nodes.{Node, Process, Thread, change_in, process_of, thread_of}
 use Rattle.kernel_model.specs.Pages.{page_end, page_number, page_size, pages_count, range}
 use Rattle.kernel_model.specs.Spaces.{each_in}
 use Rattle.kernel_model.specs.Traps.{finishes}
-use Rattle.kernel_model.specs.declared.Change.{Change}
 use Rattle.kernel_model.specs.declared.Change.TheVariants.{Brk, Map as ChangeMap, Protect, Unmap}
+use Rattle.kernel_model.specs.declared.Change.{Change}
 use Rattle.mck_word.specs.Identifiers.{pid, tid}
 use Rattle.mck_word.specs.Maps.{Map, at, each}
 use Rattle.mck_word.specs.Pages.{in_range}

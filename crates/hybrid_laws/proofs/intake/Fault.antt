@@ -1,7 +1,7 @@
 -- Intake of a Fault keeps what holds of the process, and shows nothing.
 use Rattle.hybrid_model.specs.declared.events.Event.TheVariants as Events
-use Rattle.hybrid_laws.proofs.node.Primitives.{then}
 use Rattle.hybrid_laws.proofs.maps.Reading.{reads-put}
+use Rattle.hybrid_laws.proofs.node.Primitives.{then}
 use Rattle.hybrid_laws.proofs.requests.Showing.{shown-same}
 use Rattle.hybrid_laws.proofs.states.Simulated.{simulated-none}
 use Rattle.hybrid_laws.specs.Simulated.{Simulated}
@@ -14,14 +14,14 @@ use Rattle.hybrid_model.specs.Shown.{shown_born, shown_here}
 use Rattle.hybrid_model.specs.Sides.{Caller, Noted, Service, Side}
 use Rattle.hybrid_model.specs.Tallies.{Reads, with_at}
 use Rattle.ikc_ring.specs.declared.Call.{Call}
-use Rattle.ikc_ring.specs.declared.Msg.{Msg}
 use Rattle.ikc_ring.specs.declared.Msg.TheVariants.{Fault}
+use Rattle.ikc_ring.specs.declared.Msg.{Msg}
 use Rattle.mck_word.specs.Identifiers.{pid}
 use Rattle.mck_word.specs.Maps.{at, put}
 use Rattle.mck_word.specs.declared.Access.{Access}
 use Rattle.page_pins.specs.declared.Pin.{Pin}
-use Rattle.request_book.specs.declared.ReqState.{ReqState}
 use Rattle.request_book.specs.declared.ReqState.TheVariants.{Faulted, Held, Parked, Posted, Replied, Waiting, Ended}
+use Rattle.request_book.specs.declared.ReqState.{ReqState}
 use Rattle.std.proofs.Common.{ap, arith, refl, subst, sym, ◌∙◌}
 use Rattle.std.proofs.lemmas.Bool.Decides.{nat_tests}
 use Rattle.std.specs.Prelude.{Bool, List, None, Option, Some, false, if◌then◌else◌, length, true, ℕ, ◌==◌, ◌∷◌, ◌≡◌, ◌≤◌}

@@ -1,9 +1,9 @@
 -- Intake, whatever message is taken: it keeps what holds of every process, and is the step Return or VmFinish of the one-kernel machine, or shows nothing.
 use Rattle.hybrid_model.specs.declared.events.Event.TheVariants as Events
-use Rattle.hybrid_laws.specs.OneProcess.{FramesOf}
 use Rattle.hybrid_laws.proofs.intake.Ack.{keeps_intake_ack, others_intake_ack, simulated_ack}
 use Rattle.hybrid_laws.proofs.intake.Fault.{keeps_intake_fault, others_intake_fault, simulated_fault}
 use Rattle.hybrid_laws.proofs.intake.Reply.{keeps_intake_reply, others_intake_reply, simulated_reply}
+use Rattle.hybrid_laws.specs.OneProcess.{FramesOf}
 use Rattle.hybrid_laws.specs.Simulated.{Simulated}
 use Rattle.hybrid_model.specs.Coherence.{OfProcess, goes_to_linux}
 use Rattle.hybrid_model.specs.Events.{after_here, may_here}
@@ -12,8 +12,8 @@ use Rattle.hybrid_model.specs.Lwk.{intake, space_here}
 use Rattle.hybrid_model.specs.Pairs.{Here}
 use Rattle.hybrid_model.specs.Sides.{Row, Side}
 use Rattle.hybrid_model.specs.Tallies.{Each, Reads}
-use Rattle.ikc_ring.specs.declared.Msg.{Msg}
 use Rattle.ikc_ring.specs.declared.Msg.TheVariants.{Ack, Answer, Clear, Fault, Interrupt, Reply, Request}
+use Rattle.ikc_ring.specs.declared.Msg.{Msg}
 use Rattle.kernel_model.specs.Nodes.{process_of}
 use Rattle.mck_word.specs.Identifiers.{pid}
 use Rattle.mck_word.specs.declared.Access.{Access}

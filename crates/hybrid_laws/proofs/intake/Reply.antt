@@ -3,13 +3,13 @@ use Rattle.kernel_model.specs.Steps as OneSteps
 use Rattle.kernel_model.specs.declared.steps.Step.TheVariants as Steps
 use Rattle.hybrid_model.specs.declared.events.Event.TheVariants as Events
 use Rattle.hybrid_laws.proofs.maps.Lookups.{CallerIs, caller-found}
-use Rattle.hybrid_laws.proofs.node.Keeps.{Keeps, node-keeps, calls-found, interrupts-stay, messages-stay, owned-keeps}
-use Rattle.hybrid_laws.proofs.node.Primitives.{then, returns-free}
-use Rattle.hybrid_laws.proofs.rings.Placing.{EachNumbered-map}
 use Rattle.hybrid_laws.proofs.maps.Reading.{Each-where, reads-cut}
+use Rattle.hybrid_laws.proofs.node.Keeps.{Keeps, calls-found, interrupts-stay, messages-stay, node-keeps, owned-keeps}
+use Rattle.hybrid_laws.proofs.node.Primitives.{returns-free, then}
+use Rattle.hybrid_laws.proofs.node.Threads.{called_in, returned-not}
+use Rattle.hybrid_laws.proofs.rings.Placing.{EachNumbered-map}
 use Rattle.hybrid_laws.proofs.states.Simulated.{simulated-one}
 use Rattle.hybrid_laws.specs.Simulated.{Simulated}
-use Rattle.hybrid_laws.proofs.node.Threads.{called_in, returned-not}
 use Rattle.hybrid_model.specs.Coherence.{Answered, CallHolds, IsAwaited, Marked, Messages, OnlyOwn, ReplyIsAwaited, calls_it, is_live, replies_to, state_at, tid_in, OfProcess, CallsAgree, Directions, Rounded, Served, place_in}
 use Rattle.hybrid_model.specs.Events.{after_here}
 use Rattle.hybrid_model.specs.Images.{image_here, caller_number, image_of_intake}
@@ -20,13 +20,13 @@ use Rattle.hybrid_model.specs.Sides.{Caller, Service, Side}
 use Rattle.hybrid_model.specs.Spaces.{shown_memory}
 use Rattle.hybrid_model.specs.Tallies.{Reads, if_same, tally, with_at}
 use Rattle.ikc_ring.specs.declared.Call.{Call}
-use Rattle.ikc_ring.specs.declared.Msg.{Msg}
 use Rattle.ikc_ring.specs.declared.Msg.TheVariants.{Ack, Answer, Clear, Fault, Interrupt, Reply, Request}
+use Rattle.ikc_ring.specs.declared.Msg.{Msg}
 use Rattle.kernel_model.specs.Nodes.{Node, Thread, is_called, change_in, process_of}
 use Rattle.kernel_model.specs.OneKernel.{Over}
 use Rattle.kernel_model.specs.Traps.{returns}
-use Rattle.kernel_model.specs.declared.Does.{Does}
 use Rattle.kernel_model.specs.declared.Does.TheVariants.{Asleep, Called, InVm, InWait, Ready, Stopped}
+use Rattle.kernel_model.specs.declared.Does.{Does}
 use Rattle.mck_word.specs.Identifiers.{pid, tid}
 use Rattle.mck_word.specs.MapLaws.{at-collect, at-cut, same_rows}
 use Rattle.mck_word.specs.Maps.{at, and_then, cut, each}

@@ -1,14 +1,14 @@
 -- The end of a round keeps what holds of the process, with any table that agrees outside the round's range.
-use Rattle.clear_rounds.specs.declared.Phase.{Phase}
 use Rattle.clear_rounds.specs.declared.Phase.TheVariants.{Posted as RoundPosted, Taken, Acked}
+use Rattle.clear_rounds.specs.declared.Phase.{Phase}
 use Rattle.hybrid_laws.proofs.intake.Fault.{Answered-pop}
-use Rattle.hybrid_laws.proofs.node.Keeps.{Keeps, calls-found, calls-stay, interrupts-stay, messages-stay, places-stay}
 use Rattle.hybrid_laws.proofs.maps.Reading.{EachRing-both, EachRing-map, EachRing-where}
+use Rattle.hybrid_laws.proofs.node.Keeps.{Keeps, calls-found, calls-stay, interrupts-stay, messages-stay, places-stay}
 use Rattle.hybrid_model.specs.Coherence.{OfProcess, Covered, Rounded, Covers, Served, Owns, AnswerCovered, ClearIsOf, IsOutside, NotAhead, acks, clears, is_acked_phase, is_live, is_posted_phase, posted, state_at, Directions, tid_in}
 use Rattle.hybrid_model.specs.Sides.{Side, Row, Round, Caller}
 use Rattle.hybrid_model.specs.Tallies.{Reads, tally}
-use Rattle.ikc_ring.specs.declared.Msg.{Msg}
 use Rattle.ikc_ring.specs.declared.Msg.TheVariants.{Request, Clear, Answer, Interrupt, Reply, Ack, Fault}
+use Rattle.ikc_ring.specs.declared.Msg.{Msg}
 use Rattle.kernel_model.specs.Nodes.{Node, Thread, process_of, is_called}
 use Rattle.mck_word.specs.Maps.{Map, at}
 use Rattle.mck_word.specs.Pages.{in_range}

@@ -4,13 +4,13 @@ use Rattle.kernel_model.specs.declared.steps.Step.TheVariants as OneSteps
 use Rattle.hybrid_laws.proofs.intake.Ack as ack
 use Rattle.file_model.specs.Files.{Files, description_of}
 use Rattle.hybrid_laws.proofs.calls.Closed.{finishes-closed}
+use Rattle.hybrid_laws.proofs.intake.Ack.{ack-is, fits_at_end, is-none}
+use Rattle.hybrid_laws.proofs.maps.Tests.{some-is}
 use Rattle.hybrid_laws.proofs.memory.EffectCounts.{absent-at-end}
 use Rattle.hybrid_laws.proofs.node.Goes.{GoesAwake, GoesOn, IsAwake, goes-closed}
-use Rattle.hybrid_laws.proofs.intake.Ack.{ack-is, fits_at_end, is-none}
 use Rattle.hybrid_laws.proofs.node.Sound.{Sound, goes-sound, goes-stays, is-awake, same-ended, same-instructions, same-made, sound-of, stopped-less}
-use Rattle.hybrid_laws.proofs.maps.Tests.{some-is}
 use Rattle.hybrid_laws.proofs.node.Threads.{thread-is}
-use Rattle.hybrid_laws.proofs.states.Effect.{below-after, break-sound, counted-after, framed-effect, shown-else, set-ended, set-instructions, set-made}
+use Rattle.hybrid_laws.proofs.states.Effect.{below-after, break-sound, counted-after, framed-effect, set-ended, set-instructions, set-made, shown-else}
 use Rattle.hybrid_laws.proofs.states.Node.{Keeping, coherent-later}
 use Rattle.hybrid_laws.proofs.states.Pair.{has-side, there-has, there-open}
 use Rattle.hybrid_laws.proofs.states.Quiet.{own-frames, sleeping-after}
@@ -26,14 +26,14 @@ use Rattle.hybrid_model.specs.Pairs.{Here, Pair, here, put_here, side_of, with_s
 use Rattle.hybrid_model.specs.Shown.{shown_own, status_of}
 use Rattle.hybrid_model.specs.Sides.{Caller, Row, Side, service_of}
 use Rattle.hybrid_model.specs.Spaces.{Space, after_effect}
-use Rattle.ikc_ring.specs.declared.Msg.{Msg}
 use Rattle.ikc_ring.specs.declared.Msg.TheVariants.{Ack}
+use Rattle.ikc_ring.specs.declared.Msg.{Msg}
 use Rattle.isa_model.specs.Memory.{Memory}
 use Rattle.kernel_model.specs.MemoryCalls.{Effect, answer_of_change, effect_of, most_heap, refusal_at_end}
 use Rattle.kernel_model.specs.Nodes.{Node, Process, Thread, is_asleep, is_there, no_process, process_of}
 use Rattle.kernel_model.specs.Traps.{finishes}
-use Rattle.kernel_model.specs.declared.Change.{Change}
 use Rattle.kernel_model.specs.declared.Change.TheVariants.{Brk, Map as ChangeMap, Protect, Unmap}
+use Rattle.kernel_model.specs.declared.Change.{Change}
 use Rattle.mck_word.specs.Identifiers.{tid}
 use Rattle.mck_word.specs.Maps.{Map, at}
 use Rattle.mck_word.specs.declared.Pid.{Pid}

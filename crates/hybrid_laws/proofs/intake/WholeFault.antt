@@ -11,8 +11,8 @@ use Rattle.hybrid_model.specs.Lwk.{intake, take_fault}
 use Rattle.hybrid_model.specs.Pairs.{Here, Pair, here, put_here, side_of}
 use Rattle.hybrid_model.specs.Shown.{shown_own}
 use Rattle.hybrid_model.specs.Sides.{Side}
-use Rattle.ikc_ring.specs.declared.Msg.{Msg}
 use Rattle.ikc_ring.specs.declared.Msg.TheVariants.{Fault}
+use Rattle.ikc_ring.specs.declared.Msg.{Msg}
 use Rattle.kernel_model.specs.Nodes.{is_there}
 use Rattle.kernel_model.specs.OneKernel.{OneHere}
 use Rattle.mck_word.specs.declared.Access.{Access}

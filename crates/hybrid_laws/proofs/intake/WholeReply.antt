@@ -4,11 +4,11 @@ use Rattle.hybrid_laws.proofs.intake.Reply as reply
 use Rattle.kernel_model.specs.declared.steps.Step.TheVariants as OneSteps
 use Rattle.file_model.specs.Files.{Files, description_of}
 use Rattle.hybrid_laws.proofs.calls.Closed.{returns-closed}
+use Rattle.hybrid_laws.proofs.maps.Sums.{counted_at, total-cut-by}
+use Rattle.hybrid_laws.proofs.maps.Totals.{entries-same}
 use Rattle.hybrid_laws.proofs.node.Goes.{GoesAwake, GoesOn, IsAwake, goes-closed}
 use Rattle.hybrid_laws.proofs.node.Sound.{goes-sound, goes-stays, is-awake, same-ended, same-instructions, same-made, sound-of, stopped-less}
-use Rattle.hybrid_laws.proofs.maps.Sums.{counted_at, total-cut-by}
 use Rattle.hybrid_laws.proofs.node.Threads.{thread-is}
-use Rattle.hybrid_laws.proofs.maps.Totals.{entries-same}
 use Rattle.hybrid_laws.proofs.states.Node.{Keeping, coherent-later, left_with}
 use Rattle.hybrid_laws.proofs.states.Pair.{has-side, there-open}
 use Rattle.hybrid_laws.proofs.states.Quiet.{own-frames, sleeping-after}
@@ -22,12 +22,12 @@ use Rattle.hybrid_model.specs.Lwk.{intake, take_reply, take_reply_of}
 use Rattle.hybrid_model.specs.Pairs.{Here, Pair, here, put_here, side_of}
 use Rattle.hybrid_model.specs.Shown.{shown_own, status_of}
 use Rattle.hybrid_model.specs.Sides.{Caller, Side, service_of}
-use Rattle.ikc_ring.specs.declared.Msg.{Msg}
 use Rattle.ikc_ring.specs.declared.Msg.TheVariants.{Reply}
+use Rattle.ikc_ring.specs.declared.Msg.{Msg}
 use Rattle.kernel_model.specs.Nodes.{Node, Thread, is_asleep, is_called, is_there}
 use Rattle.kernel_model.specs.Traps.{returns}
-use Rattle.kernel_model.specs.declared.Does.{Does}
 use Rattle.kernel_model.specs.declared.Does.TheVariants.{Asleep, Called, InVm, InWait, Ready, Stopped}
+use Rattle.kernel_model.specs.declared.Does.{Does}
 use Rattle.mck_word.specs.Identifiers.{tid}
 use Rattle.mck_word.specs.MapLaws.{at-cut}
 use Rattle.mck_word.specs.Maps.{at}

@@ -2,18 +2,18 @@
 use Rattle.kernel_model.specs.Steps as OneSteps
 use Rattle.kernel_model.specs.declared.steps.Step.TheVariants as Steps
 use Rattle.hybrid_model.specs.declared.events.Event.TheVariants as Events
-use Rattle.hybrid_laws.proofs.node.Keeps.{node-keeps}
-use Rattle.hybrid_laws.proofs.node.Primitives.{called_back-free, moved-keeps, then}
 use Rattle.hybrid_laws.proofs.interrupt.Posted.{Messages-interrupt}
 use Rattle.hybrid_laws.proofs.maps.Reading.{Each-map, EachRing-post, reads-put, sum-post}
+use Rattle.hybrid_laws.proofs.maps.Tests.{both, not-true, some-is}
+use Rattle.hybrid_laws.proofs.memory.ViewShown.{none-idle, none_free}
+use Rattle.hybrid_laws.proofs.node.Keeps.{node-keeps}
+use Rattle.hybrid_laws.proofs.node.Primitives.{called_back-free, moved-keeps, then}
+use Rattle.hybrid_laws.proofs.node.Threads.{IsThread, idle-one, rests-free, thread-is}
 use Rattle.hybrid_laws.proofs.requests.Showing.{has_empty-post}
 use Rattle.hybrid_laws.proofs.states.Simulated.{simulated-one}
-use Rattle.hybrid_laws.specs.Simulated.{Simulated}
-use Rattle.hybrid_laws.proofs.maps.Tests.{both, not-true, some-is}
-use Rattle.hybrid_laws.proofs.node.Threads.{IsThread, idle-one, rests-free, thread-is}
 use Rattle.hybrid_laws.proofs.trap.Begins.{ring-there}
-use Rattle.hybrid_laws.specs.OneProcess.{RingsHold, NodeHolds}
-use Rattle.hybrid_laws.proofs.memory.ViewShown.{none-idle, none_free}
+use Rattle.hybrid_laws.specs.OneProcess.{NodeHolds, RingsHold}
+use Rattle.hybrid_laws.specs.Simulated.{Simulated}
 use Rattle.hybrid_model.specs.Coherence.{AnswerCovered, AnswerIsFor, Answered, CallHolds, CallsAgree, ClearIsOf, InterruptIs, IsOutside, Marked, NotAhead, OfProcess, ReplyIsAwaited, RequestIs, answers_to, asks, calls_it, clears, goes_to_linux, interrupts_of, place_in, service_at, tid_in}
 use Rattle.hybrid_model.specs.Events.{after_here, may_here}
 use Rattle.hybrid_model.specs.Images.{image_of_interrupt}
@@ -25,8 +25,8 @@ use Rattle.hybrid_model.specs.Sides.{Caller, Round, Side, call_in, no_service, s
 use Rattle.hybrid_model.specs.Spaces.{shown_memory}
 use Rattle.hybrid_model.specs.Tallies.{Reads, as_number, if_same, sum_rings, with_at}
 use Rattle.ikc_ring.specs.declared.Call.{Call}
-use Rattle.ikc_ring.specs.declared.Msg.{Msg}
 use Rattle.ikc_ring.specs.declared.Msg.TheVariants.{Ack, Answer, Clear, Fault, Interrupt, Reply, Request}
+use Rattle.ikc_ring.specs.declared.Msg.{Msg}
 use Rattle.kernel_model.specs.Nodes.{Node, Thread, is_living, rests, thread_of}
 use Rattle.kernel_model.specs.Progress.{is_not_ready, next_kind}
 use Rattle.kernel_model.specs.Signals.{is_deliverable, moved_to_own}

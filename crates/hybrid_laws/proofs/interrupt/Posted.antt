@@ -1,15 +1,15 @@
 -- The Interrupt of a call that is not marked, posted to its thread's ring, keeps what is said of the messages of each place.
+use Rattle.hybrid_laws.proofs.maps.Reading.{Each-both, Each-map, Each-push, Each-where}
 use Rattle.hybrid_laws.proofs.node.Primitives.{then}
 use Rattle.hybrid_laws.proofs.rings.Placing.{EachNumbered-map}
 use Rattle.hybrid_laws.proofs.trap.Posted.{Each-place, post-numbered}
-use Rattle.hybrid_laws.proofs.maps.Reading.{Each-both, Each-map, Each-push, Each-where}
 use Rattle.hybrid_model.specs.Coherence.{Answered, AtMostInterrupt, CallsAgree, InOwnRing, IsPart, Messages, OnlyOwn, Placed, RequestIs, asks, calls_it, interrupts_of, is_live, is_of_place, is_posted, of_place, place_in, posted, state_at, tid_in}
 use Rattle.hybrid_model.specs.Rings.{post}
 use Rattle.hybrid_model.specs.Sides.{Caller}
 use Rattle.hybrid_model.specs.Tallies.{Each, EachNumbered, EachRing, Reads, if_same, sum_rings, tally, with_at}
 use Rattle.ikc_ring.specs.declared.Call.{Call}
-use Rattle.ikc_ring.specs.declared.Msg.{Msg}
 use Rattle.ikc_ring.specs.declared.Msg.TheVariants.{Ack, Answer, Clear, Fault, Interrupt, Reply, Request}
+use Rattle.ikc_ring.specs.declared.Msg.{Msg}
 use Rattle.kernel_model.specs.Nodes.{Thread}
 use Rattle.mck_word.specs.Maps.{at}
 use Rattle.mck_word.specs.declared.Req.{Req}

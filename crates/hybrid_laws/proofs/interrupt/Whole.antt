@@ -2,22 +2,22 @@
 use Rattle.hybrid_model.specs.declared.events.Event.TheVariants as Events
 use Rattle.kernel_model.specs.declared.steps.Step.TheVariants as OneSteps
 use Rattle.file_model.specs.Files.{Files, description_of}
+use Rattle.hybrid_laws.proofs.begin_vm.Whole.{length-post, rings-hold}
 use Rattle.hybrid_laws.proofs.calls.Closed.{Leaves, moved-closed}
-use Rattle.hybrid_laws.proofs.node.Goes.{Goes, GoesAwake, GoesOn, IsAwake, SleeperIs, each-passes, goes-closed, goes-moves, tally-filter}
 use Rattle.hybrid_laws.proofs.interrupt.Interrupt.{keeps_interrupt, marked-was, marks-at, others_interrupt, simulated_interrupt}
-use Rattle.hybrid_laws.proofs.node.LocalKeeps.{Each-filter}
 use Rattle.hybrid_laws.proofs.maps.Reading.{Each-map, reads-put}
-use Rattle.hybrid_laws.proofs.requests.Showing.{has_empty-post}
-use Rattle.hybrid_laws.proofs.node.Sound.{goes-sound, goes-stays, is-awake, node-holds, same-ended, same-instructions, same-made, sleep-once, sleepers-are, sleeping-of, sound-of, stopped-less}
 use Rattle.hybrid_laws.proofs.maps.Sums.{counted_at, total-put-by}
 use Rattle.hybrid_laws.proofs.maps.Tests.{both, not-true}
 use Rattle.hybrid_laws.proofs.maps.Totals.{entries-same}
-use Rattle.hybrid_laws.proofs.trap.Begins.{ring-there}
-use Rattle.hybrid_laws.proofs.begin_vm.Whole.{length-post, rings-hold}
+use Rattle.hybrid_laws.proofs.node.Goes.{Goes, GoesAwake, GoesOn, IsAwake, SleeperIs, each-passes, goes-closed, goes-moves, tally-filter}
+use Rattle.hybrid_laws.proofs.node.LocalKeeps.{Each-filter}
+use Rattle.hybrid_laws.proofs.node.Sound.{goes-sound, goes-stays, is-awake, node-holds, same-ended, same-instructions, same-made, sleep-once, sleepers-are, sleeping-of, sound-of, stopped-less}
+use Rattle.hybrid_laws.proofs.requests.Showing.{has_empty-post}
 use Rattle.hybrid_laws.proofs.states.Node.{Keeping, coherent-later}
 use Rattle.hybrid_laws.proofs.states.Pair.{has-side, there-open}
 use Rattle.hybrid_laws.proofs.states.Quiet.{keeping-quiet, own-frames, sleeping-after}
 use Rattle.hybrid_laws.proofs.states.Steps.{AtMostOne, SimulatedPair, simulated-pair}
+use Rattle.hybrid_laws.proofs.trap.Begins.{ring-there}
 use Rattle.hybrid_model.specs.Coherence.{OfProcess}
 use Rattle.hybrid_model.specs.Events.{after, may, may_here}
 use Rattle.hybrid_model.specs.Globals.{CallsHold, Coherent, Sleeping, StatusHolds, description_held, holders, is_number, ring_number}
@@ -29,13 +29,13 @@ use Rattle.hybrid_model.specs.Rings.{post}
 use Rattle.hybrid_model.specs.Shown.{reply_code, shown_own, status_in, status_of}
 use Rattle.hybrid_model.specs.Sides.{Caller, Side, call_in, no_service, service_of, state_in}
 use Rattle.hybrid_model.specs.Tallies.{if_same}
-use Rattle.ikc_ring.specs.declared.Msg.{Msg}
 use Rattle.ikc_ring.specs.declared.Msg.TheVariants.{Interrupt}
+use Rattle.ikc_ring.specs.declared.Msg.{Msg}
 use Rattle.kernel_model.specs.Nodes.{Node, Sleeper, Thread, change_thread, is_asleep, is_called, is_there, set_pc, thread_of, without_sleeper}
 use Rattle.kernel_model.specs.Signals.{moved_to_own}
 use Rattle.kernel_model.specs.Traps.{called_back, may_be_marked}
-use Rattle.kernel_model.specs.declared.Does.{Does}
 use Rattle.kernel_model.specs.declared.Does.TheVariants.{Asleep, Called, InVm, InWait, Ready, Stopped}
+use Rattle.kernel_model.specs.declared.Does.{Does}
 use Rattle.mck_word.specs.Maps.{put, at}
 use Rattle.mck_word.specs.declared.Tid.{Tid}
 use Rattle.std.proofs.Common.{ap, arith, refl, subst, sym, ◌∙◌}

@@ -1,14 +1,14 @@
 -- Whole journals: by induction over their events, from what holds of each event.
-use Rattle.hybrid_laws.specs.Journals.{Follows, gone, gone_in}
 use Rattle.kernel_model.specs.OneKernel as One
 use Rattle.kernel_model.specs.Steps as OneSteps
-use Rattle.hybrid_laws.specs.Lasting.{Lasting}
+use Rattle.hybrid_laws.proofs.calls.Last.{gone-after, lasting-after}
+use Rattle.hybrid_laws.proofs.every.Linux.{holds_linux}
 use Rattle.hybrid_laws.proofs.journal.NoStall.{no-dying, no-stall}
 use Rattle.hybrid_laws.proofs.journal.Still.{and-true, live-there, parked, there-lives}
 use Rattle.hybrid_laws.proofs.maps.Tests.{both}
-use Rattle.hybrid_laws.proofs.calls.Last.{gone-after, lasting-after}
-use Rattle.hybrid_laws.proofs.every.Linux.{holds_linux}
 use Rattle.hybrid_laws.specs.EventKinds.{is_of_linux}
+use Rattle.hybrid_laws.specs.Journals.{Follows, gone, gone_in}
+use Rattle.hybrid_laws.specs.Lasting.{Lasting}
 use Rattle.hybrid_model.specs.Boot.{boot}
 use Rattle.hybrid_model.specs.Claims.{Headline, Holds, Runs, WaitsForEver, replies}
 use Rattle.hybrid_model.specs.Coherence.{is_live}

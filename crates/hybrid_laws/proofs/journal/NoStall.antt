@@ -2,10 +2,10 @@
 use Rattle.hybrid_model.specs.declared.events.Event.TheVariants as Events
 use Rattle.kernel_model.specs.Steps as OneSteps
 use Rattle.kernel_model.specs.declared.steps.Step.TheVariants as Steps
-use Rattle.hybrid_laws.specs.Lasting.{Lasting}
 use Rattle.hybrid_laws.proofs.journal.Still.{and-true, call-parked, caller-there, dying-there, empty-all, living-there, no-back, no-ring, no-round, not-asked, not-ready-now, or-right, there-lives, unmarked}
 use Rattle.hybrid_laws.proofs.maps.Tests.{both, some-is}
 use Rattle.hybrid_laws.proofs.memory.Written.{each-entry}
+use Rattle.hybrid_laws.specs.Lasting.{Lasting}
 use Rattle.hybrid_model.specs.Claims.{NoAddedStall}
 use Rattle.hybrid_model.specs.Events.{may, may_here, of_line, process_of_event}
 use Rattle.hybrid_model.specs.Globals.{Coherent}
@@ -22,8 +22,8 @@ use Rattle.kernel_model.specs.Progress.{Progress, has_piece, is_file_step, is_no
 use Rattle.kernel_model.specs.Signals.{is_deliverable}
 use Rattle.kernel_model.specs.Steps.{active, answer_in, blocked, call_at, has_call, holds_of, is_active, is_blocked, may_change, no_call, piece_has_right, some_called}
 use Rattle.kernel_model.specs.Traps.{line_may, line_of, may_be_called_back, may_be_marked, may_deliver, may_end_wait_of, may_run, may_script, may_trap, may_wait, wait_of}
-use Rattle.kernel_model.specs.declared.Does.{Does}
 use Rattle.kernel_model.specs.declared.Does.TheVariants.{Asleep, Called, InVm, InWait, Ready, Stopped}
+use Rattle.kernel_model.specs.declared.Does.{Does}
 use Rattle.kernel_model.specs.declared.steps.Step.{Step}
 use Rattle.mck_word.specs.Identifiers.{pid, tid}
 use Rattle.mck_word.specs.MapLaws.{at-collect, at-none}

@@ -1,12 +1,12 @@
 -- Where no event may happen: rings are empty, there is no pin, no round, no noted fault and no worker that serves, nothing waits, and each call is parked.
 use Rattle.hybrid_model.specs.declared.events.Event.TheVariants as Events
-use Rattle.clear_rounds.specs.declared.Phase.{Phase}
 use Rattle.clear_rounds.specs.declared.Phase.TheVariants.{Acked, Posted as RoundPosted, Taken}
-use Rattle.file_model.specs.declared.operations.Readiness.{Readiness}
+use Rattle.clear_rounds.specs.declared.Phase.{Phase}
 use Rattle.file_model.specs.declared.operations.Readiness.TheVariants.{FileStep, NotReady, Ready}
-use Rattle.hybrid_laws.specs.Lasting.{Lasting}
+use Rattle.file_model.specs.declared.operations.Readiness.{Readiness}
 use Rattle.hybrid_laws.proofs.maps.Tests.{both}
 use Rattle.hybrid_laws.proofs.memory.Written.{each-entry}
+use Rattle.hybrid_laws.specs.Lasting.{Lasting}
 use Rattle.hybrid_model.specs.Coherence.{OfProcess, acked, acks, answers_to, asks, calls_it, clears, faulting, faults_of, holder, holder_at, interrupts_of, is_faulted, is_live, is_posted, is_waiting, posted, replies_to, service_at, tid_in}
 use Rattle.hybrid_model.specs.Events.{may, may_here, process_of_event}
 use Rattle.hybrid_model.specs.Globals.{Coherent, ring_number, waits_or_held}
@@ -23,15 +23,15 @@ use Rattle.ikc_ring.specs.declared.Msg.{Msg}
 use Rattle.kernel_model.specs.Nodes.{Node, Process, dying, has_ended, has_process, is_dying, is_ended, is_living, is_there, lives, no_process, process_of, thread_of}
 use Rattle.kernel_model.specs.Progress.{is_file_step, is_not_ready, is_ready, next_kind}
 use Rattle.kernel_model.specs.Traps.{may_be_called_back, may_be_marked}
-use Rattle.kernel_model.specs.declared.Life.{Life}
 use Rattle.kernel_model.specs.declared.Life.TheVariants.{Dying, Ended as LifeEnded, Living}
+use Rattle.kernel_model.specs.declared.Life.{Life}
 use Rattle.mck_word.specs.Identifiers.{pid, req, tid}
 use Rattle.mck_word.specs.Maps.{Map, at, each_row, entries}
 use Rattle.mck_word.specs.Pages.{in_range}
 use Rattle.mck_word.specs.declared.PageRange.{PageRange}
 use Rattle.page_pins.specs.declared.Pin.{Pin}
-use Rattle.request_book.specs.declared.ReqState.{ReqState}
 use Rattle.request_book.specs.declared.ReqState.TheVariants.{Ended, Faulted, Held, Parked, Posted, Replied, Waiting}
+use Rattle.request_book.specs.declared.ReqState.{ReqState}
 use Rattle.std.proofs.Common.{ap, arith, inl, inr, refl, subst, sym, ◌∙◌}
 use Rattle.std.proofs.lemmas.Bool.Decides.{nat_tests}
 use Rattle.std.specs.List.{list_all}

@@ -1,9 +1,9 @@
 -- Pages added at the lowest free frames, and pages with other rights: other rows stay, frames stay apart, and the one-kernel machine does the same.
 use Rattle.kernel_model.specs.Spaces as one
-use Rattle.hybrid_laws.proofs.memory.Dropping.{shown_space}
-use Rattle.hybrid_laws.specs.OneProcess.{with_table}
-use Rattle.hybrid_laws.proofs.node.Primitives.{at-change, then}
 use Rattle.hybrid_laws.proofs.maps.Reading.{reads-put}
+use Rattle.hybrid_laws.proofs.memory.Dropping.{shown_space}
+use Rattle.hybrid_laws.proofs.node.Primitives.{at-change, then}
+use Rattle.hybrid_laws.specs.OneProcess.{with_table}
 use Rattle.hybrid_model.specs.Globals.{Frames, Rising, copies}
 use Rattle.hybrid_model.specs.Shown.{one}
 use Rattle.hybrid_model.specs.Sides.{Row}

@@ -1,12 +1,12 @@
 -- Pages copied to the lowest free frames: the new table shows them, frames stay apart, and rows elsewhere show what they showed.
 use Rattle.std.specs.FinMap as finmap
 use Rattle.std.specs.FinMap.Entries as fin
-use Rattle.hybrid_laws.proofs.memory.Adding.{frames_add, shown_lowest}
-use Rattle.hybrid_laws.proofs.memory.Effects.{own-not-free}
-use Rattle.hybrid_laws.specs.OneProcess.{FramesOf}
 use Rattle.hybrid_laws.proofs.maps.Sums.{none-below}
 use Rattle.hybrid_laws.proofs.maps.Tests.{both}
+use Rattle.hybrid_laws.proofs.memory.Adding.{frames_add, shown_lowest}
+use Rattle.hybrid_laws.proofs.memory.Effects.{own-not-free}
 use Rattle.hybrid_laws.proofs.memory.Written.{sorted-true}
+use Rattle.hybrid_laws.specs.OneProcess.{FramesOf}
 use Rattle.hybrid_model.specs.Globals.{copies}
 use Rattle.hybrid_model.specs.Sides.{Row}
 use Rattle.hybrid_model.specs.Spaces.{Space, add_page, copied_pages, first_number, page_at_lowest, rest_numbers, shown_memory}

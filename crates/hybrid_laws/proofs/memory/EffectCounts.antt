@@ -1,13 +1,13 @@
 -- A whole effect neither makes nor loses a frame: rows and free frames stay below the count, and together as many.
 use Rattle.kernel_model.specs.Spaces as one
 use Rattle.std.specs.FinMap as finmap
+use Rattle.hybrid_laws.proofs.intake.Ack.{falls, is-none}
+use Rattle.hybrid_laws.proofs.maps.Sums.{counted_in, total-cut, total-put}
 use Rattle.hybrid_laws.proofs.memory.Adding.{add_other, over_pages}
-use Rattle.hybrid_laws.proofs.trap.DecideSays.{NowSays, empty-in}
 use Rattle.hybrid_laws.proofs.memory.Dropping.{copies-insert, drop_other, drop_own, length-insert, shown_drops, shown_space}
 use Rattle.hybrid_laws.proofs.memory.Effects.{drops-none, length-add}
-use Rattle.hybrid_laws.proofs.intake.Ack.{falls, is-none}
 use Rattle.hybrid_laws.proofs.node.Primitives.{at-change}
-use Rattle.hybrid_laws.proofs.maps.Sums.{counted_in, total-cut, total-put}
+use Rattle.hybrid_laws.proofs.trap.DecideSays.{NowSays, empty-in}
 use Rattle.hybrid_model.specs.Globals.{copies}
 use Rattle.hybrid_model.specs.Sides.{Row}
 use Rattle.hybrid_model.specs.Spaces.{Space, add_page, after_effect, drop_page, first_number, give_back, page_at_lowest, protect_page, rest_numbers, shown_memory, shown_row}
@@ -16,8 +16,8 @@ use Rattle.kernel_model.specs.MemoryCalls.{Effect, effect_of, refusal_at_end}
 use Rattle.kernel_model.specs.Nodes.{Process}
 use Rattle.kernel_model.specs.Pages.{page_end, pages_count, range, zero_page}
 use Rattle.kernel_model.specs.Spaces.{OneSpace, each_in, each_page}
-use Rattle.kernel_model.specs.declared.Change.{Change}
 use Rattle.kernel_model.specs.declared.Change.TheVariants.{Brk, Map as ChangeMap, Protect, Unmap}
+use Rattle.kernel_model.specs.declared.Change.{Change}
 use Rattle.mck_flags.specs.declared.rights.Rights.{Rights}
 use Rattle.mck_word.specs.MapLaws.{at-collect, at-cut, at-put}
 use Rattle.mck_word.specs.Maps.{Map, and_then, at, change_row, count, cut, entries, put, total}

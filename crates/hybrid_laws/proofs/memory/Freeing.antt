@@ -1,12 +1,12 @@
 -- The frames of a whole table, given back: the free ones rise, and each is as often free as it was free or in a row.
 use Rattle.std.specs.FinMap as finmap
+use Rattle.hybrid_laws.proofs.maps.Lookups.{each-at, found-none, found-some}
+use Rattle.hybrid_laws.proofs.maps.Sums.{counted_in, total-le, total-put}
 use Rattle.hybrid_laws.proofs.memory.Adding.{rising-above, rising-rest}
 use Rattle.hybrid_laws.proofs.memory.Dropping.{copies-insert, rising-insert}
-use Rattle.hybrid_laws.specs.OneProcess.{with_table}
-use Rattle.hybrid_laws.proofs.maps.Lookups.{each-at, found-none, found-some}
-use Rattle.hybrid_laws.proofs.node.Primitives.{then}
-use Rattle.hybrid_laws.proofs.maps.Sums.{counted_in, total-le, total-put}
 use Rattle.hybrid_laws.proofs.memory.Written.{each-entry}
+use Rattle.hybrid_laws.proofs.node.Primitives.{then}
+use Rattle.hybrid_laws.specs.OneProcess.{with_table}
 use Rattle.hybrid_model.specs.Globals.{Frames, Rising, copies}
 use Rattle.hybrid_model.specs.Sides.{Row}
 use Rattle.hybrid_model.specs.Spaces.{freed, freed_rows, insert_frame}

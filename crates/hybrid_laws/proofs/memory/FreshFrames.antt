@@ -1,6 +1,6 @@
 -- Frames that an effect hands out: each was free or stood in a row that the effect takes away, nothing refers to it, and it holds zeros.
-use Rattle.hybrid_laws.specs.OneProcess.{with_table}
 use Rattle.hybrid_laws.proofs.memory.HandedOut.{CameFrom, WasIn, came-effect}
+use Rattle.hybrid_laws.specs.OneProcess.{with_table}
 use Rattle.hybrid_model.specs.Claims.{AnswersOther, HandsOutFresh, IsFresh, Unreferenced}
 use Rattle.hybrid_model.specs.Coherence.{AnswerCovered}
 use Rattle.hybrid_model.specs.Events.{after}
@@ -11,8 +11,8 @@ use Rattle.hybrid_model.specs.Sides.{Row, Side}
 use Rattle.hybrid_model.specs.Spaces.{Space, after_effect, drop_page, frame_bytes}
 use Rattle.hybrid_model.specs.Tallies.{Each, EachRing, if_same}
 use Rattle.hybrid_model.specs.declared.events.Event.{Event}
-use Rattle.ikc_ring.specs.declared.Msg.{Msg}
 use Rattle.ikc_ring.specs.declared.Msg.TheVariants.{Ack, Answer, Clear, Fault, Interrupt, Reply, Request}
+use Rattle.ikc_ring.specs.declared.Msg.{Msg}
 use Rattle.kernel_model.specs.MemoryCalls.{Effect}
 use Rattle.kernel_model.specs.Pages.{pages_count, zero_page}
 use Rattle.kernel_model.specs.Spaces.{each_in}

@@ -1,6 +1,6 @@
 -- Stores and instructions change no page's rights, and make and take away no page.
-use Rattle.hybrid_laws.proofs.node.Primitives.{at-change, then}
 use Rattle.hybrid_laws.proofs.memory.Written.{SameShape, shown_written}
+use Rattle.hybrid_laws.proofs.node.Primitives.{at-change, then}
 use Rattle.hybrid_model.specs.Lwk.{run_for}
 use Rattle.hybrid_model.specs.Sides.{Row}
 use Rattle.hybrid_model.specs.Spaces.{shown_memory, shown_row, written_back}
@@ -10,8 +10,8 @@ use Rattle.isa_model.specs.Decode.{decoded}
 use Rattle.isa_model.specs.Instr.{Outcome, after_fetch, do_am, do_arith, do_atomic, do_atomic_at, do_s, execute, execute_am, execute_any, instr, outcome, store_of, wide_of}
 use Rattle.isa_model.specs.Memory.{Memory, Page, fetched, first_lack, lacks, number_at, page_with, put_byte, put_number, stored_unless, write_bytes}
 use Rattle.isa_model.specs.Registers.{reg}
-use Rattle.isa_model.specs.declared.forms.Form.{Form}
 use Rattle.isa_model.specs.declared.forms.Form.TheVariants.{B, I, J, R, S, U}
+use Rattle.isa_model.specs.declared.forms.Form.{Form}
 use Rattle.isa_model.specs.declared.names.Op.{Op}
 use Rattle.isa_model.specs.declared.stops.Lack.{Lack}
 use Rattle.isa_model.specs.declared.stops.Stop.TheVariants.{Misaligned, On, Fault as StopFault}

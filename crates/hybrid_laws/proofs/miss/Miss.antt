@@ -1,17 +1,17 @@
 -- Miss keeps what holds of the process, and shows nothing.
 use Rattle.hybrid_model.specs.declared.events.Event.TheVariants as Events
-use Rattle.hybrid_laws.proofs.rings.Back.{Answered-back, Rounded-back, one-worker, other-request}
-use Rattle.hybrid_laws.proofs.rings.InRings.{in_rings, rings-back}
-use Rattle.hybrid_laws.proofs.requests.OneRequest.{with_messages}
 use Rattle.hybrid_laws.proofs.maps.Reading.{Each-push, reads-stated, tally-push}
+use Rattle.hybrid_laws.proofs.maps.Tests.{both}
+use Rattle.hybrid_laws.proofs.requests.OneRequest.{with_messages}
 use Rattle.hybrid_laws.proofs.requests.Ready.{ready-piece}
 use Rattle.hybrid_laws.proofs.requests.Requests.{PinServes-keeps}
 use Rattle.hybrid_laws.proofs.requests.Serving.{Serves, free-to-act}
 use Rattle.hybrid_laws.proofs.requests.Showing.{no_empty}
 use Rattle.hybrid_laws.proofs.requests.Silent.{code-other, shown-silent, status-one}
+use Rattle.hybrid_laws.proofs.rings.Back.{Answered-back, Rounded-back, one-worker, other-request}
+use Rattle.hybrid_laws.proofs.rings.InRings.{in_rings, rings-back}
 use Rattle.hybrid_laws.proofs.states.Simulated.{simulated-none}
 use Rattle.hybrid_laws.specs.Simulated.{Simulated}
-use Rattle.hybrid_laws.proofs.maps.Tests.{both}
 use Rattle.hybrid_model.specs.Coherence.{FaultIsFor, OfProcess, Served, faults_of, service_at}
 use Rattle.hybrid_model.specs.Events.{after_here, may_here, miss}
 use Rattle.hybrid_model.specs.Linux.{is_free_to_act, kind_for, may_miss, row_for, turn_given_up}
@@ -20,14 +20,14 @@ use Rattle.hybrid_model.specs.Shown.{has_empty, serves_it, status_of}
 use Rattle.hybrid_model.specs.Sides.{Noted, Service, service_of, with_state}
 use Rattle.hybrid_model.specs.Tallies.{Reads, with_at}
 use Rattle.ikc_ring.specs.declared.Call.{Call}
-use Rattle.ikc_ring.specs.declared.Msg.{Msg}
 use Rattle.ikc_ring.specs.declared.Msg.TheVariants.{Fault}
+use Rattle.ikc_ring.specs.declared.Msg.{Msg}
 use Rattle.kernel_model.specs.Progress.{Progress, has_piece, is_ready, needed_access, next_kind, next_piece}
 use Rattle.mck_word.specs.Maps.{at}
 use Rattle.mck_word.specs.declared.Pid.{Pid}
 use Rattle.page_pins.specs.declared.Pin.{Pin}
-use Rattle.request_book.specs.declared.ReqState.{ReqState}
 use Rattle.request_book.specs.declared.ReqState.TheVariants.{Faulted, Held}
+use Rattle.request_book.specs.declared.ReqState.{ReqState}
 use Rattle.std.proofs.Common.{ap, arith, refl, ◌∙◌}
 use Rattle.std.proofs.lemmas.Bool.Decides.{nat_tests}
 use Rattle.std.specs.Prelude.{List, None, Option, Some, [], false, is_none, nat_lt, true, ℕ, ◌&&◌, ◌++◌, ◌<◌, ◌∷◌, ◌≡◌}

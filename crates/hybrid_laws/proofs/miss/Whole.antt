@@ -1,7 +1,7 @@
 -- Miss in the whole state.
 use Rattle.hybrid_model.specs.declared.events.Event.TheVariants as Events
-use Rattle.hybrid_laws.proofs.miss.Miss.{keeps_miss, may-miss, simulates_miss}
 use Rattle.hybrid_laws.proofs.maps.Tests.{both}
+use Rattle.hybrid_laws.proofs.miss.Miss.{keeps_miss, may-miss, simulates_miss}
 use Rattle.hybrid_laws.proofs.states.Pair.{has-side}
 use Rattle.hybrid_laws.proofs.states.Silent.{coherent-silent}
 use Rattle.hybrid_laws.proofs.states.Steps.{SimulatedPair, simulated-pair}

@@ -1,12 +1,12 @@
 -- What the instructions, deliveries, the script, forks and the end of a process keep of the node.
 use Rattle.file_model.specs.Files.{close_all}
 use Rattle.hybrid_laws.proofs.node.Keeps.{Keeps, Keeps-same, ThreadKeeps, thread-same}
-use Rattle.hybrid_laws.proofs.node.Primitives.{change-free, change-heap, change-quiet, dies-keeps, drop_ignored-keeps, either, for_process-keeps, put-new, same-node, taken-keeps, then, with_action-keeps, row-gone}
+use Rattle.hybrid_laws.proofs.node.Primitives.{change-free, change-heap, change-quiet, dies-keeps, drop_ignored-keeps, either, for_process-keeps, put-new, row-gone, same-node, taken-keeps, then, with_action-keeps}
 use Rattle.hybrid_model.specs.Lwk.{run_for, set_break}
 use Rattle.isa_model.specs.Instr.{Outcome, instr}
 use Rattle.isa_model.specs.Memory.{may_access}
-use Rattle.isa_model.specs.declared.stops.Stop.{Stop}
 use Rattle.isa_model.specs.declared.stops.Stop.TheVariants.{Break, Ecall, Illegal, Misaligned, On, Fault as StopFault}
+use Rattle.isa_model.specs.declared.stops.Stop.{Stop}
 use Rattle.kernel_model.specs.CloneCalls.{child_process, child_thread, with_child}
 use Rattle.kernel_model.specs.Nodes.{Node, Process, ScriptLine, Sleeper, Thread, action_of, change_process, change_thread, dies, is_called, is_living, no_process, process_of, ready_to_run, set_pc, thread_of}
 use Rattle.kernel_model.specs.Signals.{SA_RESETHAND, View, after_reset, deliver, deliver_signal, enter_handler, frame_address, frame_size, generate_for_process, handler_mask, handler_regs, interrupted_regs, next_signal, on_node, frame_bytes as signal_frame, store, taken, with_action}

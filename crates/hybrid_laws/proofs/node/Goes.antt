@@ -1,16 +1,16 @@
 -- What calls, signals and deliveries of one thread do to the node as a whole: no thread is new, processes keep their heaps, limits and instructions, sleepers stay Asleep.
 use Rattle.hybrid_laws.proofs.calls.Closed.{Calm, Closed, Leaves, is_plain}
+use Rattle.hybrid_laws.proofs.maps.Reading.{Each-both, Each-map, Each-push, tally-push}
 use Rattle.hybrid_laws.proofs.node.LocalKeeps.{Each-filter}
 use Rattle.hybrid_laws.proofs.node.Primitives.{Quiet, at-change}
-use Rattle.hybrid_laws.proofs.maps.Reading.{Each-both, Each-map, Each-push, tally-push}
 use Rattle.hybrid_laws.proofs.node.Threads.{thread-changed, thread-is, thread-other}
 use Rattle.hybrid_model.specs.Tallies.{Each, if_same, tally}
 use Rattle.kernel_model.specs.LocalCalls.{falls_asleep, is_waiter, waiters, wake, wake_threads}
 use Rattle.kernel_model.specs.Nodes.{Node, Process, Sleeper, Thread, has_ended, is_stopped, answered, change_process, change_thread, process_of, set_a0, thread_of, without_thread, set_does}
 use Rattle.kernel_model.specs.SignalSets.{without_signal}
 use Rattle.kernel_model.specs.Signals.{drop_ignored, ignores}
-use Rattle.kernel_model.specs.declared.Does.{Does}
 use Rattle.kernel_model.specs.declared.Does.TheVariants.{Asleep, Called, InVm, InWait, Ready, Stopped}
+use Rattle.kernel_model.specs.declared.Does.{Does}
 use Rattle.mck_word.specs.MapLaws.{at-collect, at-cut}
 use Rattle.mck_word.specs.Maps.{Map, at, change, and_then, cut, each}
 use Rattle.mck_word.specs.Words.{word_of}

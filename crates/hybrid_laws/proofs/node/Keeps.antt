@@ -4,15 +4,15 @@ use Rattle.hybrid_model.specs.Coherence.{AtMostInterrupt, CallsAgree, InterruptI
 use Rattle.hybrid_model.specs.Sides.{Caller, Side, Round}
 use Rattle.hybrid_model.specs.Tallies.{Each, EachNumbered, EachRing, Reads}
 use Rattle.ikc_ring.specs.declared.Call.{Call}
-use Rattle.ikc_ring.specs.declared.Msg.{Msg}
 use Rattle.ikc_ring.specs.declared.Msg.TheVariants.{Ack, Clear, Request, Answer, Fault, Interrupt, Reply}
+use Rattle.ikc_ring.specs.declared.Msg.{Msg}
 use Rattle.kernel_model.specs.MemoryCalls.{closing_range, most_heap}
 use Rattle.kernel_model.specs.Nodes.{Node, Process, Thread, change_in, is_called, process_of}
 use Rattle.kernel_model.specs.Pages.{page_end, page_number, range}
-use Rattle.kernel_model.specs.declared.Change.{Change}
 use Rattle.kernel_model.specs.declared.Change.TheVariants.{Brk, Protect, Unmap, Map as ChangeMap}
-use Rattle.kernel_model.specs.declared.Does.{Does}
+use Rattle.kernel_model.specs.declared.Change.{Change}
 use Rattle.kernel_model.specs.declared.Does.TheVariants.{Asleep, Called, InVm, InWait, Ready, Stopped}
+use Rattle.kernel_model.specs.declared.Does.{Does}
 use Rattle.mck_word.specs.Maps.{at}
 use Rattle.request_book.specs.declared.ReqState.{ReqState}
 use Rattle.std.proofs.Common.{arith, refl, subst, sym, ◌∙◌, ap}

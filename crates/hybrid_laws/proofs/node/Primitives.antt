@@ -8,13 +8,13 @@ use Rattle.kernel_model.specs.SignalSets.{with_signal, without_signal, has}
 use Rattle.kernel_model.specs.Signals.{drop_ignored, generate_for_process, generate_for_thread, ignores, moved_to_own, next_signal, raised, taken, with_action}
 use Rattle.kernel_model.specs.Traps.{called_back, finishes, is_error, returns}
 use Rattle.kernel_model.specs.declared.Action.{Action}
-use Rattle.kernel_model.specs.declared.Does.{Does}
 use Rattle.kernel_model.specs.declared.Does.TheVariants.{Ready}
+use Rattle.kernel_model.specs.declared.Does.{Does}
 use Rattle.mck_word.specs.MapLaws.{at-collect, at-cut, at-put}
 use Rattle.mck_word.specs.Maps.{Map, and_then, at, change, change_row, put}
 use Rattle.mck_word.specs.Words.{word_of}
-use Rattle.mck_word.specs.declared.End.{End}
 use Rattle.mck_word.specs.declared.End.TheVariants.{Killed}
+use Rattle.mck_word.specs.declared.End.{End}
 use Rattle.std.proofs.Common.{ap, arith, refl, subst, sym, ◌∙◌}
 use Rattle.std.proofs.lemmas.Bool.Decides.{nat_tests}
 use Rattle.std.specs.Prelude.{Bool, List, None, Option, Some, [], cond, false, option_map, pos, slice_set, true, unwrap_or, ℕ, ℤ, ◌+◌, ◌-◌, ◌==◌, ◌^◌, ◌||◌, ◌∷◌, ◌≡◌}

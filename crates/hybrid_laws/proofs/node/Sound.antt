@@ -1,9 +1,9 @@
 -- The node's own part of coherence, and what keeps it.
-use Rattle.hybrid_laws.specs.Stopped.{stops}
-use Rattle.hybrid_laws.proofs.node.Goes.{Goes, IsAwake, SleepOnce, SleeperIs, SleepersAre, WasThere, lasting}
 use Rattle.hybrid_laws.proofs.maps.Sums.{counted_in, total-le, total-same}
+use Rattle.hybrid_laws.proofs.node.Goes.{Goes, IsAwake, SleepOnce, SleeperIs, SleepersAre, WasThere, lasting}
 use Rattle.hybrid_laws.proofs.trap.Keeps.{each-got}
 use Rattle.hybrid_laws.specs.OneProcess.{NodeHolds}
+use Rattle.hybrid_laws.specs.Stopped.{stops}
 use Rattle.hybrid_model.specs.Globals.{Coherent, HeapHolds, HeapsHold, Places, Sleeping}
 use Rattle.hybrid_model.specs.Pairs.{Pair}
 use Rattle.hybrid_model.specs.Tallies.{Each, as_number, if_same, tally}

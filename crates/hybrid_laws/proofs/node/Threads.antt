@@ -1,16 +1,16 @@
 -- The thread of an event: from the tests to what they say of it, and what the changes of the node leave of it.
 use Rattle.file_model.specs.Errno.{EINTR, EPIPE}
+use Rattle.hybrid_laws.proofs.maps.Sums.{counted_in, total-put}
 use Rattle.hybrid_laws.proofs.node.Keeps.{is_pinned}
 use Rattle.hybrid_laws.proofs.node.Primitives.{at-change}
-use Rattle.hybrid_laws.proofs.maps.Sums.{counted_in, total-put}
 use Rattle.isa_model.specs.Instr.{Outcome}
 use Rattle.isa_model.specs.declared.stops.Stop.{Stop}
 use Rattle.kernel_model.specs.Nodes.{Node, Process, Thread, change_process, change_thread, instructions_in_all, is_living, is_stopped, lives, no_process, no_thread, process_of, ready_to_run, rests, thread_of, answered, is_called, sent_back, set_a0, set_pc, without_thread}
 use Rattle.kernel_model.specs.SignalSets.{with_signal}
 use Rattle.kernel_model.specs.Signals.{is_deliverable, next_of_sets, generate_for_thread, ignores}
 use Rattle.kernel_model.specs.Traps.{counted, does_after, finishes, is_error, returns}
-use Rattle.kernel_model.specs.declared.Does.{Does}
 use Rattle.kernel_model.specs.declared.Does.TheVariants.{Asleep, Called, InVm, InWait, Ready, Stopped}
+use Rattle.kernel_model.specs.declared.Does.{Does}
 use Rattle.mck_word.specs.MapLaws.{at-cut}
 use Rattle.mck_word.specs.Maps.{at, change, change_row, put, total}
 use Rattle.mck_word.specs.Words.{word_of}

@@ -2,18 +2,18 @@
 use Rattle.hybrid_model.specs.declared.events.Event.TheVariants as Events
 use Rattle.kernel_model.specs.declared.steps.Step.TheVariants as Steps
 use Rattle.kernel_model.specs.Steps as OneSteps
-use Rattle.hybrid_laws.proofs.rings.Back.{other-request}
+use Rattle.hybrid_laws.proofs.maps.Reading.{Each-where, EachRing-where, reads-cut, reads-stated}
+use Rattle.hybrid_laws.proofs.maps.Tests.{both}
 use Rattle.hybrid_laws.proofs.requests.HeldStep.{keeps_step}
 use Rattle.hybrid_laws.proofs.requests.OneRequest.{files-any, goes_on}
-use Rattle.hybrid_laws.proofs.maps.Reading.{Each-where, EachRing-where, reads-cut, reads-stated}
 use Rattle.hybrid_laws.proofs.requests.Requests.{IsForNext-keeps, PinServes-keeps}
 use Rattle.hybrid_laws.proofs.requests.Serving.{Serves, free-to-act}
 use Rattle.hybrid_laws.proofs.requests.Silent.{serves-other}
-use Rattle.hybrid_laws.proofs.states.Simulated.{simulated-one}
-use Rattle.hybrid_laws.specs.Simulated.{Simulated}
 use Rattle.hybrid_laws.proofs.requests.Speaking.{calls-after, shown-call-at, the-caller, thread-served-is}
 use Rattle.hybrid_laws.proofs.requests.Statuses.{put-other, put-own, status-others, status-own}
-use Rattle.hybrid_laws.proofs.maps.Tests.{both}
+use Rattle.hybrid_laws.proofs.rings.Back.{other-request}
+use Rattle.hybrid_laws.proofs.states.Simulated.{simulated-one}
+use Rattle.hybrid_laws.specs.Simulated.{Simulated}
 use Rattle.hybrid_model.specs.Coherence.{AnswerIsFor, FaultIsFor, IsForNext, OfProcess, Served, answers_to, faults_of}
 use Rattle.hybrid_model.specs.Events.{after_here, may_here, park_here, give_up_turn, with_linux}
 use Rattle.hybrid_model.specs.Images.{image_here, image_of_park}
@@ -25,8 +25,8 @@ use Rattle.hybrid_model.specs.Sides.{Noted, Service, Side, service_of, with_serv
 use Rattle.hybrid_model.specs.Spaces.{shown_memory}
 use Rattle.hybrid_model.specs.Tallies.{Reads, counted, sum_rings, tally, with_at}
 use Rattle.ikc_ring.specs.declared.Call.{Call}
-use Rattle.ikc_ring.specs.declared.Msg.{Msg}
 use Rattle.ikc_ring.specs.declared.Msg.TheVariants.{Ack, Answer, Clear, Fault, Interrupt, Reply, Request}
+use Rattle.ikc_ring.specs.declared.Msg.{Msg}
 use Rattle.kernel_model.specs.Nodes.{set_files}
 use Rattle.kernel_model.specs.OneKernel.{Active, Blocked, CallStatus, Over}
 use Rattle.kernel_model.specs.Progress.{interrupted_answer, is_not_ready, next_kind, Progress, given_back}
@@ -35,8 +35,8 @@ use Rattle.mck_word.specs.Maps.{at, cut, each, put}
 use Rattle.mck_word.specs.declared.Access.{Access}
 use Rattle.mck_word.specs.declared.Pid.{Pid}
 use Rattle.page_pins.specs.declared.Pin.{Pin}
-use Rattle.request_book.specs.declared.ReqState.{ReqState}
 use Rattle.request_book.specs.declared.ReqState.TheVariants.{Ended, Held, Parked}
+use Rattle.request_book.specs.declared.ReqState.{ReqState}
 use Rattle.std.proofs.Common.{arith, refl, subst, sym, ap, ◌∙◌}
 use Rattle.std.proofs.lemmas.Bool.Decides.{nat_tests}
 use Rattle.std.specs.Prelude.{Bool, List, None, Some, false, nat_lt, true, ℕ, ◌+◌, ◌<◌, ◌==◌, ◌≡◌, ◌≢◌, Option, unwrap_or, length, ◌&&◌, ◌||◌}

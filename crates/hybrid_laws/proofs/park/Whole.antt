@@ -3,16 +3,16 @@ use Rattle.hybrid_model.specs.declared.events.Event.TheVariants as Events
 use Rattle.file_model.specs.Files.{Files}
 use Rattle.hybrid_laws.proofs.calls.Steps.{gives-back}
 use Rattle.hybrid_laws.proofs.files.Descriptions.{carries-same}
-use Rattle.hybrid_laws.specs.CallSteps.{Carries}
+use Rattle.hybrid_laws.proofs.maps.Tests.{both}
+use Rattle.hybrid_laws.proofs.park.Park.{MayPark, after_park, kept, may-park, others-then, own-then, park-is, parked, simulates_park, status_then}
 use Rattle.hybrid_laws.proofs.requests.OneRequest.{files-any}
-use Rattle.hybrid_laws.proofs.park.Park.{kept, MayPark, after_park, may-park, others-then, own-then, park-is, parked, simulates_park, status_then}
 use Rattle.hybrid_laws.proofs.requests.Speaking.{the-thread, thread-served-is}
 use Rattle.hybrid_laws.proofs.requests.Statuses.{put-other}
-use Rattle.hybrid_laws.proofs.maps.Tests.{both}
 use Rattle.hybrid_laws.proofs.states.Pair.{has-side}
 use Rattle.hybrid_laws.proofs.states.Step.{coherent-step, found-held, under-way}
 use Rattle.hybrid_laws.proofs.states.Steps.{AtMostOne, SimulatedPair, simulated-pair}
 use Rattle.hybrid_laws.proofs.states.Turns.{stated-other}
+use Rattle.hybrid_laws.specs.CallSteps.{Carries}
 use Rattle.hybrid_model.specs.Coherence.{OfProcess}
 use Rattle.hybrid_model.specs.Events.{after, may, may_here}
 use Rattle.hybrid_model.specs.Globals.{Coherent, StatusHolds, description_held, ring_number, waits_or_held}

@@ -2,11 +2,11 @@
 use Rattle.hybrid_model.specs.declared.events.Event.TheVariants as Events
 use Rattle.clear_rounds.specs.declared.Phase.TheVariants.{Posted as RoundPosted, Taken, Acked}
 use Rattle.hybrid_laws.proofs.maps.Reading.{reads-put}
+use Rattle.hybrid_laws.proofs.maps.Tests.{both, some-is}
 use Rattle.hybrid_laws.proofs.requests.Ready.{ready-piece}
 use Rattle.hybrid_laws.proofs.requests.Serving.{Serves, free-to-act}
 use Rattle.hybrid_laws.proofs.states.Simulated.{simulated-none}
 use Rattle.hybrid_laws.specs.Simulated.{Simulated}
-use Rattle.hybrid_laws.proofs.maps.Tests.{both, some-is}
 use Rattle.hybrid_model.specs.Coherence.{Covers, OfProcess, PinServes, acked_at, is_faulted, state_at, taken_at}
 use Rattle.hybrid_model.specs.Events.{after_here, may_here}
 use Rattle.hybrid_model.specs.Linux.{is_free_to_act, kind_for, may_pin, pin, pinned, row_for}

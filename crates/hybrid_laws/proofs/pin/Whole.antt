@@ -1,7 +1,7 @@
 -- Pin in the whole state.
 use Rattle.hybrid_model.specs.declared.events.Event.TheVariants as Events
-use Rattle.hybrid_laws.proofs.pin.Pin.{keeps_pin, pin-is, simulates_pin}
 use Rattle.hybrid_laws.proofs.maps.Tests.{both}
+use Rattle.hybrid_laws.proofs.pin.Pin.{keeps_pin, pin-is, simulates_pin}
 use Rattle.hybrid_laws.proofs.states.Pair.{has-side}
 use Rattle.hybrid_laws.proofs.states.Silent.{coherent-silent, turns-stay}
 use Rattle.hybrid_laws.proofs.states.Steps.{SimulatedPair, simulated-pair}

@@ -1,14 +1,14 @@
 -- What the end of a process does to the node as a whole: its threads and sleepers are gone, its files are closed, its parent may be told.
 use Rattle.file_model.specs.Files.{close_all}
+use Rattle.hybrid_laws.proofs.maps.Reading.{Each-both, Each-map}
+use Rattle.hybrid_laws.proofs.maps.Sums.{counted_in, total-le, total-same}
+use Rattle.hybrid_laws.proofs.maps.Tests.{not-true}
 use Rattle.hybrid_laws.proofs.node.Goes.{SleepOnce, SleeperIs, SleepersAre, each-passes, goes-process, goes-same, tally-filter}
 use Rattle.hybrid_laws.proofs.node.LocalKeeps.{Each-filter}
 use Rattle.hybrid_laws.proofs.node.Primitives.{at-change}
-use Rattle.hybrid_laws.proofs.maps.Reading.{Each-both, Each-map}
 use Rattle.hybrid_laws.proofs.node.Sound.{Sound, sleep-once, sleepers-are, sleeping-of}
-use Rattle.hybrid_laws.specs.Stopped.{stops}
-use Rattle.hybrid_laws.proofs.maps.Sums.{counted_in, total-le, total-same}
-use Rattle.hybrid_laws.proofs.maps.Tests.{not-true}
 use Rattle.hybrid_laws.proofs.trap.Goes.{NodeSteps, steps-of}
+use Rattle.hybrid_laws.specs.Stopped.{stops}
 use Rattle.hybrid_model.specs.Tallies.{if_same}
 use Rattle.kernel_model.specs.Nodes.{Node, Process, Sleeper, Thread, change_process, has_ended, has_process, instructions_in_all, is_ended, is_living, is_there, no_process, process_of}
 use Rattle.kernel_model.specs.Pages.{page_size}

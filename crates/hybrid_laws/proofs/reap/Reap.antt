@@ -5,16 +5,16 @@ use Rattle.hybrid_model.specs.declared.events.Event.TheVariants as Events
 use Rattle.std.specs.FinMap as finmap
 use Rattle.std.specs.FinMap.Entries as fin
 use Rattle.file_model.specs.Files.{close_all}
-use Rattle.hybrid_laws.proofs.memory.Dropping.{length-insert}
-use Rattle.hybrid_laws.proofs.node.EventKeeps.{ended-keeps}
 use Rattle.hybrid_laws.proofs.maps.Lookups.{no-row}
-use Rattle.hybrid_laws.proofs.node.Keeps.{Keeps, node-keeps}
-use Rattle.hybrid_laws.proofs.states.Simulated.{simulated-one}
-use Rattle.hybrid_laws.specs.Simulated.{Simulated}
 use Rattle.hybrid_laws.proofs.maps.Sums.{none-below}
 use Rattle.hybrid_laws.proofs.maps.Tests.{both, none-is, not-true}
-use Rattle.hybrid_laws.proofs.node.Threads.{thread-is}
+use Rattle.hybrid_laws.proofs.memory.Dropping.{length-insert}
 use Rattle.hybrid_laws.proofs.memory.Written.{sorted-true}
+use Rattle.hybrid_laws.proofs.node.EventKeeps.{ended-keeps}
+use Rattle.hybrid_laws.proofs.node.Keeps.{Keeps, node-keeps}
+use Rattle.hybrid_laws.proofs.node.Threads.{thread-is}
+use Rattle.hybrid_laws.proofs.states.Simulated.{simulated-one}
+use Rattle.hybrid_laws.specs.Simulated.{Simulated}
 use Rattle.hybrid_model.specs.Coherence.{AnswerCovered, InterruptIs, OfProcess, OnlyOwn, Owned, Placed, calls_it, holder, is_live, service_at, state_at, tid_in}
 use Rattle.hybrid_model.specs.Events.{after_here, may_here}
 use Rattle.hybrid_model.specs.Lwk.{may_reap, reap}

@@ -3,19 +3,19 @@ use Rattle.std.specs.FinMap as finmap
 use Rattle.hybrid_model.specs.declared.events.Event.TheVariants as Events
 use Rattle.hybrid_laws.proofs.reap.Reap as reaping
 use Rattle.file_model.specs.Files.{Files, close_all, description_of}
-use Rattle.hybrid_laws.specs.CallSteps.{Carries}
-use Rattle.hybrid_laws.proofs.reap.EndedNode.{closed-ended, closed-instructions, closed-made, closed-stops, told, node-closed}
 use Rattle.hybrid_laws.proofs.files.Operations.{carries-settled}
-use Rattle.hybrid_laws.proofs.memory.Freeing.{frames_freed, not-kept}
-use Rattle.hybrid_laws.proofs.reap.Reap.{MayReap, keeps_reap, length-freed, others_reap, simulated_reap}
-use Rattle.hybrid_laws.proofs.node.Sound.{Sound, sound-of}
 use Rattle.hybrid_laws.proofs.maps.Tests.{both}
 use Rattle.hybrid_laws.proofs.maps.Totals.{entries-least}
-use Rattle.hybrid_laws.proofs.trap.Goes.{NodeSteps}
+use Rattle.hybrid_laws.proofs.memory.Freeing.{frames_freed, not-kept}
+use Rattle.hybrid_laws.proofs.node.Sound.{Sound, sound-of}
+use Rattle.hybrid_laws.proofs.reap.EndedNode.{closed-ended, closed-instructions, closed-made, closed-stops, node-closed, told}
+use Rattle.hybrid_laws.proofs.reap.Reap.{MayReap, keeps_reap, length-freed, others_reap, simulated_reap}
 use Rattle.hybrid_laws.proofs.states.Calls.{Holder, counts_one, holder-of}
 use Rattle.hybrid_laws.proofs.states.Node.{Keeping, coherent-later}
 use Rattle.hybrid_laws.proofs.states.Pair.{has-side}
 use Rattle.hybrid_laws.proofs.states.Steps.{SimulatedPair, simulated-pair}
+use Rattle.hybrid_laws.proofs.trap.Goes.{NodeSteps}
+use Rattle.hybrid_laws.specs.CallSteps.{Carries}
 use Rattle.hybrid_model.specs.Events.{after, may, may_here}
 use Rattle.hybrid_model.specs.Globals.{Coherent, Empty, copies, holders, ring_number, table_of}
 use Rattle.hybrid_model.specs.Linux.{end_of_found, end_of_target, pipe_end}

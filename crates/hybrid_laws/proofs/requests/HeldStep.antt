@@ -1,20 +1,20 @@
 -- A worker steps its request, which was Held and goes on or ends: the book, the services and the workers agree after it.
-use Rattle.hybrid_laws.proofs.requests.OneRequest.{goes_on}
 use Rattle.hybrid_laws.proofs.maps.Reading.{Each-where, EachRing-where, reads-put}
+use Rattle.hybrid_laws.proofs.requests.OneRequest.{goes_on}
 use Rattle.hybrid_laws.proofs.requests.Requests.{IsForNext-keeps, PinServes-keeps}
 use Rattle.hybrid_model.specs.Coherence.{AnswerIsFor, FaultIsFor, IsForNext, PinServes, Served, answers_to, faults_of, holder, is_faulted, is_fetched, is_live, is_posted, is_waiting, service_at, state_at, OfProcess}
 use Rattle.hybrid_model.specs.Linux.{state_if}
 use Rattle.hybrid_model.specs.Sides.{Noted, Service, Side, service_of, with_service, with_state}
 use Rattle.hybrid_model.specs.Tallies.{Reads, counted, sum_rings, tally, with_at}
 use Rattle.ikc_ring.specs.declared.Call.{Call}
-use Rattle.ikc_ring.specs.declared.Msg.{Msg}
 use Rattle.ikc_ring.specs.declared.Msg.TheVariants.{Ack, Clear, Fault, Request, Answer, Interrupt, Reply}
+use Rattle.ikc_ring.specs.declared.Msg.{Msg}
 use Rattle.kernel_model.specs.Nodes.{Node}
 use Rattle.mck_word.specs.Maps.{at}
 use Rattle.mck_word.specs.declared.Access.{Access}
 use Rattle.page_pins.specs.declared.Pin.{Pin}
-use Rattle.request_book.specs.declared.ReqState.{ReqState}
 use Rattle.request_book.specs.declared.ReqState.TheVariants.{Held}
+use Rattle.request_book.specs.declared.ReqState.{ReqState}
 use Rattle.std.proofs.Common.{ap, arith, refl, subst, sym, ◌∙◌}
 use Rattle.std.proofs.lemmas.Bool.Decides.{nat_tests}
 use Rattle.std.specs.Prelude.{Bool, List, None, Option, Some, false, true, ℕ, ℤ, ◌+◌, ◌==◌, ◌≡◌, ◌≢◌}

@@ -1,12 +1,12 @@
 -- A request that is Ended leaves the book: what stays of the messages in the rings.
-use Rattle.hybrid_laws.proofs.rings.Placing.{EachNumbered-map}
 use Rattle.hybrid_laws.proofs.maps.Reading.{Each-map}
+use Rattle.hybrid_laws.proofs.rings.Placing.{EachNumbered-map}
 use Rattle.hybrid_model.specs.Coherence.{InOwnRing, IsPart, Messages, OnlyOwn, Placed, ReplyIsAwaited, is_live, is_posted, of_place, replies_to, state_at, tid_in}
 use Rattle.hybrid_model.specs.Sides.{Caller}
 use Rattle.hybrid_model.specs.Tallies.{Each, Reads, tally}
 use Rattle.ikc_ring.specs.declared.Call.{Call}
-use Rattle.ikc_ring.specs.declared.Msg.{Msg}
 use Rattle.ikc_ring.specs.declared.Msg.TheVariants.{Ack, Answer, Clear, Fault, Interrupt, Reply, Request}
+use Rattle.ikc_ring.specs.declared.Msg.{Msg}
 use Rattle.kernel_model.specs.Nodes.{Thread}
 use Rattle.request_book.specs.declared.ReqState.{ReqState}
 use Rattle.std.proofs.Common.{ap, arith, refl, sym, ◌∙◌}

@@ -1,8 +1,8 @@
 -- One fetched request gets another state: the process is whole again once its table, its round and its workers are.
 use Rattle.file_model.specs.Files.{Files}
-use Rattle.hybrid_laws.proofs.rings.InRings.{InRings, in_rings, rings-services, rings-state}
 use Rattle.hybrid_laws.proofs.maps.Reading.{reads-stated}
 use Rattle.hybrid_laws.proofs.requests.Requests.{Answered-state}
+use Rattle.hybrid_laws.proofs.rings.InRings.{InRings, in_rings, rings-services, rings-state}
 use Rattle.hybrid_model.specs.Coherence.{Answered, Covered, OfProcess, Rounded, Served, is_live, is_posted, service_at}
 use Rattle.hybrid_model.specs.Sides.{Book, LinuxSide, Side, with_state}
 use Rattle.hybrid_model.specs.Tallies.{Reads, with_at}

@@ -1,12 +1,12 @@
 -- What stays where one request changes.
-use Rattle.hybrid_laws.proofs.maps.Reading.{Each-map, EachRing-map, Each-push, EachRing-post, EachRing-take}
+use Rattle.hybrid_laws.proofs.maps.Reading.{Each-map, Each-push, EachRing-map, EachRing-post, EachRing-take}
 use Rattle.hybrid_model.specs.Coherence.{AnswerIsFor, Answered, FaultIsFor, IsForNext, NotedIsFor, PinServes, ReplyIsAwaited, calls_it, is_live, state_at, tid_in, service_at, RequestIs, is_posted, Directions, InterruptIs, goes_to_linux, is_faulted, place_in}
 use Rattle.hybrid_model.specs.Rings.{post, ring, with_ring}
 use Rattle.hybrid_model.specs.Sides.{Noted, Service, Caller, state_in}
 use Rattle.hybrid_model.specs.Tallies.{Reads, with_at, Each, EachRing}
 use Rattle.ikc_ring.specs.declared.Call.{Call}
-use Rattle.ikc_ring.specs.declared.Msg.{Msg}
 use Rattle.ikc_ring.specs.declared.Msg.TheVariants.{Request, Clear, Answer, Interrupt, Reply, Ack, Fault}
+use Rattle.ikc_ring.specs.declared.Msg.{Msg}
 use Rattle.isa_model.specs.Memory.{allows}
 use Rattle.kernel_model.specs.Nodes.{Thread}
 use Rattle.kernel_model.specs.Progress.{has_piece, needed_access, next_piece}

@@ -4,8 +4,8 @@ use Rattle.hybrid_model.specs.Linux.{has_pin, holds, is_ended_request, is_free_t
 use Rattle.hybrid_model.specs.Sides.{Book, LinuxSide, state_of, serves}
 use Rattle.ikc_ring.specs.declared.Call.{Call}
 use Rattle.mck_word.specs.Maps.{at}
-use Rattle.request_book.specs.declared.ReqState.{ReqState}
 use Rattle.request_book.specs.declared.ReqState.TheVariants.{Faulted, Held, Parked, Replied, Waiting, Ended, Posted}
+use Rattle.request_book.specs.declared.ReqState.{ReqState}
 use Rattle.std.proofs.Common.{ap, arith, refl, ◌∙◌}
 use Rattle.std.specs.Prelude.{Bool, None, Option, Some, false, is_some, not, true, ℕ, ◌≡◌}
 

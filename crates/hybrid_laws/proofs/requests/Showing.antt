@@ -6,8 +6,8 @@ use Rattle.hybrid_model.specs.Shown.{has_empty, any_empty, is_empty_for, serves_
 use Rattle.hybrid_model.specs.Sides.{Side, Caller, Row}
 use Rattle.hybrid_model.specs.Spaces.{shown_memory, frame_bytes, shown_row}
 use Rattle.hybrid_model.specs.Tallies.{Reads, sum_rings, tally}
-use Rattle.ikc_ring.specs.declared.Msg.{Msg}
 use Rattle.ikc_ring.specs.declared.Msg.TheVariants.{Request, Clear, Answer, Interrupt, Reply, Ack, Fault}
+use Rattle.ikc_ring.specs.declared.Msg.{Msg}
 use Rattle.isa_model.specs.Table.{table}
 use Rattle.kernel_model.specs.OneKernel.{Call as OneCall}
 use Rattle.kernel_model.specs.Pages.{zero_page}

@@ -6,8 +6,8 @@ use Rattle.hybrid_model.specs.Shown.{has_empty, reply_code, serves_it, shown_bor
 use Rattle.hybrid_model.specs.Sides.{Service, Side, Turn, call_in, no_service, state_in}
 use Rattle.hybrid_model.specs.Tallies.{Reads, tally, with_at}
 use Rattle.ikc_ring.specs.declared.Call.{Call}
-use Rattle.ikc_ring.specs.declared.Msg.{Msg}
 use Rattle.ikc_ring.specs.declared.Msg.TheVariants.{Ack, Answer, Clear, Fault, Interrupt, Reply, Request}
+use Rattle.ikc_ring.specs.declared.Msg.{Msg}
 use Rattle.mck_word.specs.Maps.{Map}
 use Rattle.request_book.specs.declared.ReqState.{ReqState}
 use Rattle.std.proofs.Common.{ap, arith, refl, sym, ◌∙◌}

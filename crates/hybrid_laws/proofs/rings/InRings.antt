@@ -1,7 +1,7 @@
 -- What the rings of a process hold, as one record, and how it stays where a message is taken or comes back, a request gets another state, or a service changes.
-use Rattle.hybrid_laws.proofs.rings.Placing.{IsOfNone, Marked-services, Marked-take, Messages-state, Messages-take}
 use Rattle.hybrid_laws.proofs.maps.Reading.{EachRing-take}
 use Rattle.hybrid_laws.proofs.requests.Requests.{asked-state, directions-back, directions-take, interrupts-state, live-state, tid-state}
+use Rattle.hybrid_laws.proofs.rings.Placing.{IsOfNone, Marked-services, Marked-take, Messages-state, Messages-take}
 use Rattle.hybrid_model.specs.Coherence.{Directions, InOwnRing, InterruptIs, Marked, Messages, OfProcess, RequestIs, goes_to_linux, is_live, is_posted, service_at, state_at}
 use Rattle.hybrid_model.specs.Rings.{ring, with_ring}
 use Rattle.hybrid_model.specs.Sides.{Caller, Service, Side}

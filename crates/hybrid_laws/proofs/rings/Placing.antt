@@ -6,8 +6,8 @@ use Rattle.hybrid_model.specs.Rings.{post, ring, with_ring}
 use Rattle.hybrid_model.specs.Sides.{Service, Caller}
 use Rattle.hybrid_model.specs.Tallies.{Reads, EachNumbered}
 use Rattle.ikc_ring.specs.declared.Call.{Call}
-use Rattle.ikc_ring.specs.declared.Msg.{Msg}
 use Rattle.ikc_ring.specs.declared.Msg.TheVariants.{Request, Clear, Answer, Interrupt, Reply, Ack, Fault}
+use Rattle.ikc_ring.specs.declared.Msg.{Msg}
 use Rattle.kernel_model.specs.Nodes.{Thread}
 use Rattle.request_book.specs.declared.ReqState.{ReqState}
 use Rattle.std.proofs.Common.{ap, arith, refl, subst, sym, ◌∙◌}

@@ -1,11 +1,11 @@
 -- Run keeps what holds of every process, and is as many steps Instr of the one-kernel machine as it executes instructions.
 use Rattle.kernel_model.specs.declared.steps.Step.TheVariants as Steps
+use Rattle.hybrid_laws.proofs.maps.Tests.{both, not-true, some-is}
+use Rattle.hybrid_laws.proofs.memory.Shapes.{run_for-rights, shown-back}
 use Rattle.hybrid_laws.proofs.node.EventKeeps.{run_for-keeps}
 use Rattle.hybrid_laws.proofs.node.Keeps.{node-keeps}
-use Rattle.hybrid_laws.proofs.memory.Shapes.{run_for-rights, shown-back}
+use Rattle.hybrid_laws.proofs.node.Threads.{IsThread, counted-deliverable, counted-living, counted-more, counted-thread, idle-one, ready-is, thread-is}
 use Rattle.hybrid_laws.specs.Simulated.{Simulated, steps_after, steps_may}
-use Rattle.hybrid_laws.proofs.maps.Tests.{both, not-true, some-is}
-use Rattle.hybrid_laws.proofs.node.Threads.{counted-deliverable, counted-living, counted-more, counted-thread, idle-one, ready-is, thread-is, IsThread}
 use Rattle.hybrid_model.specs.Coherence.{OfProcess}
 use Rattle.hybrid_model.specs.Events.{after_here, may_here}
 use Rattle.hybrid_model.specs.Lwk.{left_of_limit, length_of_run, may_run_for, memory_here, ran, run, run_for}

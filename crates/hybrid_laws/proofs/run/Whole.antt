@@ -3,17 +3,17 @@ use Rattle.kernel_model.specs.Steps as OneSteps
 use Rattle.kernel_model.specs.declared.steps.Step.TheVariants as Steps
 use Rattle.hybrid_model.specs.declared.events.Event.TheVariants as Events
 use Rattle.file_model.specs.Files.{Files, description_of}
-use Rattle.hybrid_laws.proofs.node.Goes.{IsAwake, SleeperIs, awake-stay}
-use Rattle.hybrid_laws.proofs.node.Primitives.{at-change}
-use Rattle.hybrid_laws.proofs.run.Run.{MayRun, keeps_run, may-run, Runs}
-use Rattle.hybrid_laws.proofs.node.Sound.{Stays, WasIn, is-awake, same-ended, same-made, sleep-once, sleepers-are, sleeping-of, sound-of, standing, stays-sound, stays-then}
-use Rattle.hybrid_laws.specs.Stopped.{stops}
 use Rattle.hybrid_laws.proofs.maps.Sums.{counted_in, total-cut}
 use Rattle.hybrid_laws.proofs.maps.Tests.{both}
+use Rattle.hybrid_laws.proofs.node.Goes.{IsAwake, SleeperIs, awake-stay}
+use Rattle.hybrid_laws.proofs.node.Primitives.{at-change}
+use Rattle.hybrid_laws.proofs.node.Sound.{Stays, WasIn, is-awake, same-ended, same-made, sleep-once, sleepers-are, sleeping-of, sound-of, standing, stays-sound, stays-then}
 use Rattle.hybrid_laws.proofs.node.Threads.{counted-deliverable, counted-living, counted-more, counted-thread, ready-is, thread-is, thread-other}
+use Rattle.hybrid_laws.proofs.run.Run.{MayRun, Runs, keeps_run, may-run}
 use Rattle.hybrid_laws.proofs.states.Node.{Keeping, coherent-later}
 use Rattle.hybrid_laws.proofs.states.Pair.{there-open}
 use Rattle.hybrid_laws.proofs.states.Quiet.{own-frames}
+use Rattle.hybrid_laws.specs.Stopped.{stops}
 use Rattle.hybrid_model.specs.Events.{after, may, may_here}
 use Rattle.hybrid_model.specs.Globals.{Coherent, Sleeping, holders, ring_number}
 use Rattle.hybrid_model.specs.Linux.{pipe_end}

@@ -2,13 +2,13 @@
 use Rattle.kernel_model.specs.Steps as OneSteps
 use Rattle.kernel_model.specs.declared.steps.Step.TheVariants as Steps
 use Rattle.hybrid_model.specs.declared.events.Event.TheVariants as Events
-use Rattle.hybrid_laws.proofs.run.Run.{may-run, simulated_run, ran_shown}
-use Rattle.hybrid_laws.specs.Simulated.{steps_after, steps_may}
 use Rattle.hybrid_laws.proofs.maps.Tests.{both}
 use Rattle.hybrid_laws.proofs.node.Threads.{counted-thread, thread-is}
+use Rattle.hybrid_laws.proofs.run.Run.{may-run, ran_shown, simulated_run}
 use Rattle.hybrid_laws.proofs.states.Pair.{has-side}
 use Rattle.hybrid_laws.proofs.states.Quiet.{apart-own, other-shown}
 use Rattle.hybrid_laws.proofs.states.Steps.{SimulatedPair, one-put, put-same}
+use Rattle.hybrid_laws.specs.Simulated.{steps_after, steps_may}
 use Rattle.hybrid_model.specs.Events.{after_here, may, may_here}
 use Rattle.hybrid_model.specs.Globals.{Coherent}
 use Rattle.hybrid_model.specs.Images.{image_here}

@@ -1,14 +1,14 @@
 -- Script in the whole state.
 use Rattle.hybrid_model.specs.declared.events.Event.TheVariants as Events
 use Rattle.hybrid_laws.proofs.calls.Closed.{script-closed}
+use Rattle.hybrid_laws.proofs.maps.Tests.{both}
 use Rattle.hybrid_laws.proofs.node.Goes.{GoesAwake, GoesOn, IsAwake, goes-closed}
 use Rattle.hybrid_laws.proofs.script.Script.{keeps_script, simulated_script}
-use Rattle.hybrid_laws.proofs.maps.Tests.{both}
-use Rattle.hybrid_laws.proofs.trap.Keeps.{each-got}
 use Rattle.hybrid_laws.proofs.states.Node.{coherent-later}
 use Rattle.hybrid_laws.proofs.states.Pair.{has-side}
 use Rattle.hybrid_laws.proofs.states.Quiet.{keeping-quiet, sleeping-after}
 use Rattle.hybrid_laws.proofs.states.Steps.{SimulatedPair, simulated-pair}
+use Rattle.hybrid_laws.proofs.trap.Keeps.{each-got}
 use Rattle.hybrid_model.specs.Events.{after, may, may_here, process_of_event}
 use Rattle.hybrid_model.specs.Globals.{Coherent, ring_number}
 use Rattle.hybrid_model.specs.Pairs.{Here, Pair, here, side_of}

@@ -1,9 +1,9 @@
 -- What holds of the calls of every process where an event steps one call, that is under way: who holds which description.
 use Rattle.file_model.specs.Files.{Files}
-use Rattle.hybrid_laws.specs.CallSteps.{FoundHeld, Carries, calls_at, holds_it}
-use Rattle.hybrid_laws.proofs.requests.Speaking.{the-caller}
 use Rattle.hybrid_laws.proofs.maps.Totals.{entries-but, entries-least, entries-two}
+use Rattle.hybrid_laws.proofs.requests.Speaking.{the-caller}
 use Rattle.hybrid_laws.proofs.states.Pair.{has-side}
+use Rattle.hybrid_laws.specs.CallSteps.{Carries, FoundHeld, calls_at, holds_it}
 use Rattle.hybrid_model.specs.Coherence.{OfProcess, is_live}
 use Rattle.hybrid_model.specs.Globals.{CallsHold, Coherent, IsUnderWay, StatusHolds, description_held, holders, is_number, ring_number, waits_or_held}
 use Rattle.hybrid_model.specs.Linux.{end_of_found, end_of_target, is_turn_for, pipe_end}
@@ -16,8 +16,8 @@ use Rattle.kernel_model.specs.OneKernel.{Active, CallStatus}
 use Rattle.kernel_model.specs.Progress.{Progress}
 use Rattle.mck_word.specs.MapLaws.{at-none}
 use Rattle.mck_word.specs.Maps.{Map, at, entries, total}
-use Rattle.request_book.specs.declared.ReqState.{ReqState}
 use Rattle.request_book.specs.declared.ReqState.TheVariants.{Ended, Faulted, Held, Parked, Posted, Replied, Waiting}
+use Rattle.request_book.specs.declared.ReqState.{ReqState}
 use Rattle.std.proofs.Common.{ap, arith, refl, subst, sym, ◌∙◌}
 use Rattle.std.proofs.lemmas.Bool.Decides.{nat_tests}
 use Rattle.std.specs.Prelude.{Bool, None, Option, Some, cond, false, sum_by, true, unwrap_or, ℕ, ℤ, ◌+◌, ◌<◌, ◌==◌, ◌≡◌, ◌≤◌}

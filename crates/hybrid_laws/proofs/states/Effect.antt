@@ -1,14 +1,14 @@
 -- An effect on a process's memory in the whole state: what it keeps of frames, and of the other processes' bytes; and a break set in bounds.
+use Rattle.hybrid_laws.proofs.maps.Reading.{each-same}
+use Rattle.hybrid_laws.proofs.maps.Sums.{counted_in, total-same}
 use Rattle.hybrid_laws.proofs.memory.Dropping.{copies-insert}
-use Rattle.hybrid_laws.specs.OneProcess.{with_table}
-use Rattle.hybrid_laws.proofs.memory.EffectCounts.{Below, below-effect, in-effect, Absent}
+use Rattle.hybrid_laws.proofs.memory.EffectCounts.{Absent, Below, below-effect, in-effect}
 use Rattle.hybrid_laws.proofs.memory.Effects.{frames_effect, length-add}
 use Rattle.hybrid_laws.proofs.node.Primitives.{at-change}
-use Rattle.hybrid_laws.proofs.maps.Reading.{each-same}
 use Rattle.hybrid_laws.proofs.node.Sound.{Sound}
-use Rattle.hybrid_laws.proofs.maps.Sums.{counted_in, total-same}
 use Rattle.hybrid_laws.proofs.node.Threads.{process-changed}
 use Rattle.hybrid_laws.proofs.states.Quiet.{own-frames}
+use Rattle.hybrid_laws.specs.OneProcess.{with_table}
 use Rattle.hybrid_model.specs.Globals.{Coherent, Frames, HeapHolds, table_of, copies}
 use Rattle.hybrid_model.specs.Lwk.{set_break, space_here}
 use Rattle.hybrid_model.specs.Pairs.{Pair, here, side_of}

@@ -2,9 +2,9 @@
 use Rattle.file_model.specs.Files.{Files, description_of}
 use Rattle.hybrid_laws.proofs.act.Act.{others}
 use Rattle.hybrid_laws.proofs.copy.Copy.{held}
-use Rattle.hybrid_laws.proofs.requests.OneRequest.{files-any}
 use Rattle.hybrid_laws.proofs.maps.Tests.{both, not-true}
 use Rattle.hybrid_laws.proofs.maps.Totals.{total-put}
+use Rattle.hybrid_laws.proofs.requests.OneRequest.{files-any}
 use Rattle.hybrid_model.specs.Coherence.{OfProcess}
 use Rattle.hybrid_model.specs.Globals.{Coherent, DescriptionsHeld, Empty, Frames, FramesCounted, Known, TurnsHold, holders, ring_number, table_of, CallsHold}
 use Rattle.hybrid_model.specs.Pairs.{Here, Pair, here, put_here, side_of}

@@ -1,14 +1,14 @@
 -- The step to the whole state for an event after which the side is as it was, and the node goes as a call or a signal makes it go.
 use Rattle.file_model.specs.Files.{Files, description_of}
-use Rattle.hybrid_laws.specs.OneProcess.{with_table}
+use Rattle.hybrid_laws.proofs.maps.Reading.{each-same}
 use Rattle.hybrid_laws.proofs.node.Goes.{Goes, GoesAwake, IsAwake}
 use Rattle.hybrid_laws.proofs.node.Primitives.{then}
-use Rattle.hybrid_laws.proofs.maps.Reading.{each-same}
+use Rattle.hybrid_laws.proofs.node.Sound.{goes-sound, goes-stays, same-ended, same-instructions, same-made, sleep-once, sleepers-are, sleeping-of, sound-of, stopped-less}
 use Rattle.hybrid_laws.proofs.run.Run.{TableApart}
-use Rattle.hybrid_laws.proofs.node.Sound.{goes-sound, same-ended, same-instructions, same-made, sleep-once, sleepers-are, sleeping-of, sound-of, stopped-less, goes-stays}
-use Rattle.hybrid_laws.proofs.trap.Forks.{written-other}
 use Rattle.hybrid_laws.proofs.states.Node.{Keeping}
 use Rattle.hybrid_laws.proofs.states.Pair.{there-open}
+use Rattle.hybrid_laws.proofs.trap.Forks.{written-other}
+use Rattle.hybrid_laws.specs.OneProcess.{with_table}
 use Rattle.hybrid_model.specs.Coherence.{OfProcess}
 use Rattle.hybrid_model.specs.Globals.{Coherent, Frames, Sleeping, holders, ring_number, table_of}
 use Rattle.hybrid_model.specs.Linux.{pipe_end}

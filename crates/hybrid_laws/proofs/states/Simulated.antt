@@ -1,6 +1,6 @@
 -- An event whose image is one step, or none, is simulated.
-use Rattle.hybrid_laws.specs.Simulated.{steps_after, steps_may, Simulated}
 use Rattle.kernel_model.specs.Steps as Steps
+use Rattle.hybrid_laws.specs.Simulated.{Simulated, steps_after, steps_may}
 use Rattle.hybrid_model.specs.Events.{after_here}
 use Rattle.hybrid_model.specs.Images.{image_here}
 use Rattle.hybrid_model.specs.Pairs.{Here}

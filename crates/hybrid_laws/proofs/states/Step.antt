@@ -1,10 +1,10 @@
 -- The step from one process to the whole state for an event that steps the call of a worker: its request was Held, the files change, and the turn of its end is given up.
 use Rattle.hybrid_laws.proofs.states.Calls as calls
 use Rattle.file_model.specs.Files.{Files}
-use Rattle.hybrid_laws.specs.CallSteps.{FoundHeld, Carries}
 use Rattle.hybrid_laws.proofs.states.Calls.{calls-now}
 use Rattle.hybrid_laws.proofs.states.Pair.{coherent-after, held-after, pair_after}
 use Rattle.hybrid_laws.proofs.states.Turns.{turns-given-up}
+use Rattle.hybrid_laws.specs.CallSteps.{Carries, FoundHeld}
 use Rattle.hybrid_model.specs.Coherence.{OfProcess}
 use Rattle.hybrid_model.specs.Globals.{Coherent, IsUnderWay, StatusHolds, description_held, ring_number, waits_or_held}
 use Rattle.hybrid_model.specs.Linux.{turn_given_up}

@@ -1,8 +1,8 @@
 -- The step from one process to the whole state, for the simulation: the steps of an image may happen one after another in the whole one-kernel state, and lead to what the two kernels show after.
 use Rattle.kernel_model.specs.Steps as OneSteps
 use Rattle.hybrid_laws.proofs.act.Act.{others}
-use Rattle.hybrid_laws.specs.Simulated.{Simulated, steps_after, steps_may}
 use Rattle.hybrid_laws.proofs.maps.Tests.{both}
+use Rattle.hybrid_laws.specs.Simulated.{Simulated, steps_after, steps_may}
 use Rattle.hybrid_model.specs.Claims.{Runs}
 use Rattle.hybrid_model.specs.Events.{after_here, process_of_event, after}
 use Rattle.hybrid_model.specs.Images.{image, image_here}

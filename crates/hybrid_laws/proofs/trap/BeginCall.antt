@@ -1,18 +1,18 @@
 -- The Trap of a delegated call: its number, its Request, its caller's row. It keeps what holds of the process.
-use Rattle.hybrid_laws.proofs.node.Primitives.{then}
 use Rattle.hybrid_laws.proofs.maps.Reading.{Each-map, EachRing-post, sum-post}
+use Rattle.hybrid_laws.proofs.node.Primitives.{then}
 use Rattle.hybrid_laws.proofs.requests.Requests.{PinServes-keeps}
 use Rattle.hybrid_model.specs.Coherence.{Covered, Rounded, Served, Answered, CallHolds, AnswerCovered, AnswerIsFor, ClearIsOf, IsOutside, NotAhead, ReplyIsAwaited, answers_to, asks, calls_it, clears, is_live, tid_in}
 use Rattle.hybrid_model.specs.Rings.{post}
 use Rattle.hybrid_model.specs.Sides.{Row, Round, Noted, Service, Caller, state_in}
 use Rattle.hybrid_model.specs.Tallies.{Reads, with_at, if_same}
 use Rattle.ikc_ring.specs.declared.Call.{Call}
-use Rattle.ikc_ring.specs.declared.Msg.{Msg}
 use Rattle.ikc_ring.specs.declared.Msg.TheVariants.{Request, Clear, Answer, Interrupt, Reply, Ack, Fault}
+use Rattle.ikc_ring.specs.declared.Msg.{Msg}
 use Rattle.mck_word.specs.Maps.{at}
 use Rattle.page_pins.specs.declared.Pin.{Pin}
-use Rattle.request_book.specs.declared.ReqState.{ReqState}
 use Rattle.request_book.specs.declared.ReqState.TheVariants.{Posted}
+use Rattle.request_book.specs.declared.ReqState.{ReqState}
 use Rattle.std.proofs.Common.{ap, arith, refl, subst, sym, ◌∙◌}
 use Rattle.std.proofs.lemmas.Bool.Decides.{nat_tests}
 use Rattle.std.specs.Prelude.{Bool, List, None, Option, Some, false, if◌then◌else◌, true, ℕ, ◌+◌, ◌<◌, ◌==◌, ◌≡◌}

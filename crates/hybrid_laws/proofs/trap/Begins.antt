@@ -1,12 +1,12 @@
 -- A trap that begins a delegated call: what it keeps, and the step of the one-kernel machine that it is.
-use Rattle.hybrid_laws.specs.OneProcess.{RingsHold, NodeHolds}
 use Rattle.kernel_model.specs.Steps as Steps
-use Rattle.hybrid_laws.proofs.trap.CallShown.{calls_begin}
-use Rattle.hybrid_laws.proofs.node.Keeps.{Keeps, ThreadKeeps, node-keeps, thread-same}
 use Rattle.hybrid_laws.proofs.maps.Tests.{both, some-is}
+use Rattle.hybrid_laws.proofs.memory.ViewShown.{none-idle, none_free}
+use Rattle.hybrid_laws.proofs.node.Keeps.{Keeps, ThreadKeeps, node-keeps, thread-same}
 use Rattle.hybrid_laws.proofs.node.Threads.{IsThread, stopped-is, thread-changed, thread-is, thread-other}
 use Rattle.hybrid_laws.proofs.trap.Call.{keeps_begin_call}
-use Rattle.hybrid_laws.proofs.memory.ViewShown.{none-idle, none_free}
+use Rattle.hybrid_laws.proofs.trap.CallShown.{calls_begin}
+use Rattle.hybrid_laws.specs.OneProcess.{NodeHolds, RingsHold}
 use Rattle.hybrid_model.specs.Coherence.{OfProcess}
 use Rattle.hybrid_model.specs.Linux.{first_progress, phases_in}
 use Rattle.hybrid_model.specs.Lwk.{begin_call, memory_here, trapped, view_here, call_made}

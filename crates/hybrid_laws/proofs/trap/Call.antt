@@ -1,23 +1,23 @@
 -- The Trap of a delegated call: the whole process.
-use Rattle.hybrid_laws.proofs.trap.BeginCall.{answered_call, covered-call, rounded-call, served_call}
-use Rattle.hybrid_laws.proofs.node.Keeps.{closing-same}
-use Rattle.hybrid_laws.proofs.node.Primitives.{then}
-use Rattle.hybrid_laws.proofs.trap.Posted.{Messages-request, IsGiven}
 use Rattle.hybrid_laws.proofs.maps.Reading.{EachRing-map, EachRing-post, reads-put, sum-post}
 use Rattle.hybrid_laws.proofs.maps.Tests.{no-none}
+use Rattle.hybrid_laws.proofs.node.Keeps.{closing-same}
+use Rattle.hybrid_laws.proofs.node.Primitives.{then}
+use Rattle.hybrid_laws.proofs.trap.BeginCall.{answered_call, covered-call, rounded-call, served_call}
+use Rattle.hybrid_laws.proofs.trap.Posted.{IsGiven, Messages-request}
 use Rattle.hybrid_model.specs.Coherence.{OfProcess, Owned, CallsAgree, Marked, RequestIs, interrupts_of, service_at, is_fetched, state_at, InterruptIs, goes_to_linux, place_in, tid_in}
 use Rattle.hybrid_model.specs.Lwk.{begin_call}
 use Rattle.hybrid_model.specs.Rings.{post}
 use Rattle.hybrid_model.specs.Sides.{Side, Round, Caller}
 use Rattle.hybrid_model.specs.Tallies.{Reads, with_at, tally, Each, sum_rings, EachRing, as_number}
 use Rattle.ikc_ring.specs.declared.Call.{Call}
-use Rattle.ikc_ring.specs.declared.Msg.{Msg}
 use Rattle.ikc_ring.specs.declared.Msg.TheVariants.{Request, Clear, Answer, Interrupt, Reply, Ack, Fault}
+use Rattle.ikc_ring.specs.declared.Msg.{Msg}
 use Rattle.kernel_model.specs.Nodes.{Node, Thread, Process, process_of, is_called, change_in}
 use Rattle.kernel_model.specs.Progress.{Progress, stays}
 use Rattle.mck_word.specs.Maps.{at}
-use Rattle.request_book.specs.declared.ReqState.{ReqState}
 use Rattle.request_book.specs.declared.ReqState.TheVariants.{Posted}
+use Rattle.request_book.specs.declared.ReqState.{ReqState}
 use Rattle.std.proofs.Common.{ap, arith, refl, subst, sym, ◌∙◌}
 use Rattle.std.proofs.lemmas.Bool.Decides.{nat_tests}
 use Rattle.std.specs.Prelude.{Bool, List, None, Option, Some, [], false, if◌then◌else◌, is_some, length, not, true, ℕ, ◌+◌, ◌<◌, ◌==◌, ◌∷◌, ◌≡◌, ◌≢◌, ◌≤◌}

@@ -15,8 +15,8 @@ use Rattle.kernel_model.specs.OneKernel.{Active}
 use Rattle.kernel_model.specs.Progress.{Progress}
 use Rattle.mck_word.specs.MapLaws.{at-collect, at-put, same_rows}
 use Rattle.mck_word.specs.Maps.{at, put, each, and_then}
-use Rattle.request_book.specs.declared.ReqState.{ReqState}
 use Rattle.request_book.specs.declared.ReqState.TheVariants.{Posted}
+use Rattle.request_book.specs.declared.ReqState.{ReqState}
 use Rattle.std.proofs.Common.{ap, arith, refl, sym, ◌∙◌}
 use Rattle.std.proofs.lemmas.Bool.Decides.{nat_tests}
 use Rattle.std.specs.Prelude.{Bool, None, Option, Some, cond, false, true, unwrap_or, ℕ, ◌==◌, ◌≡◌}

@@ -1,16 +1,16 @@
 -- A trap that changes the memory at once: each page that was there keeps its frame and its rights, or gets more; so it keeps what holds.
 use Rattle.kernel_model.specs.Steps as OneSteps
+use Rattle.hybrid_laws.proofs.maps.Reading.{EachRing-map}
 use Rattle.hybrid_laws.proofs.memory.Adding.{add_other, outside_range, protect_other, protect_own}
-use Rattle.hybrid_laws.proofs.trap.DecideSays.{DecisionSays, NowSays, decide-says}
 use Rattle.hybrid_laws.proofs.memory.Dropping.{drop_other}
 use Rattle.hybrid_laws.proofs.memory.Effects.{length-dropped, shown_effect}
-use Rattle.hybrid_laws.specs.OneProcess.{FramesOf}
 use Rattle.hybrid_laws.proofs.node.EventKeeps.{past_ecall-keeps, set_break-keeps}
 use Rattle.hybrid_laws.proofs.node.Keeps.{Keeps, is_pinned, node-keeps}
 use Rattle.hybrid_laws.proofs.node.Primitives.{finishes-free, then}
-use Rattle.hybrid_laws.proofs.maps.Reading.{EachRing-map}
 use Rattle.hybrid_laws.proofs.node.Threads.{idle-one, thread-changed}
 use Rattle.hybrid_laws.proofs.trap.Begins.{Traps}
+use Rattle.hybrid_laws.proofs.trap.DecideSays.{DecisionSays, NowSays, decide-says}
+use Rattle.hybrid_laws.specs.OneProcess.{FramesOf}
 use Rattle.hybrid_model.specs.Coherence.{AnswerCovered, Covered, Covers, Includes, OfProcess}
 use Rattle.hybrid_model.specs.Lwk.{memory_here, set_break, space_here, trapped, view_here}
 use Rattle.hybrid_model.specs.Pairs.{Here}
@@ -18,8 +18,8 @@ use Rattle.hybrid_model.specs.Shown.{shown_born, shown_call, shown_here}
 use Rattle.hybrid_model.specs.Sides.{Row, Side}
 use Rattle.hybrid_model.specs.Spaces.{Space, add_page, after_effect, drop_page, protect_page, shown_memory, shown_row}
 use Rattle.hybrid_model.specs.Tallies.{Reads}
-use Rattle.ikc_ring.specs.declared.Msg.{Msg}
 use Rattle.ikc_ring.specs.declared.Msg.TheVariants.{Ack, Answer, Clear, Fault, Interrupt, Reply, Request}
+use Rattle.ikc_ring.specs.declared.Msg.{Msg}
 use Rattle.isa_model.specs.Memory.{allows}
 use Rattle.kernel_model.specs.MemoryCalls.{Decision, Effect, Now, answer_of_change, decide, effect_of, lacks_of, lessens}
 use Rattle.kernel_model.specs.Nodes.{Node, Process, Thread, no_thread, process_of, set_pc, thread_of}
@@ -31,8 +31,8 @@ use Rattle.mck_flags.specs.declared.rights.Rights.{Rights}
 use Rattle.mck_word.specs.MapLaws.{at-collect}
 use Rattle.mck_word.specs.Maps.{and_then, at, each}
 use Rattle.mck_word.specs.Pages.{in_range}
-use Rattle.mck_word.specs.declared.Access.{Access}
 use Rattle.mck_word.specs.declared.Access.TheVariants.{Exec, Read as ReadAccess, Write as WriteAccess}
+use Rattle.mck_word.specs.declared.Access.{Access}
 use Rattle.mck_word.specs.declared.PageRange.{PageRange}
 use Rattle.page_pins.specs.declared.Pin.{Pin}
 use Rattle.std.proofs.Common.{ap, arith, refl, subst, sym, ◌∙◌}

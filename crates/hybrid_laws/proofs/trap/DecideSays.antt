@@ -1,18 +1,18 @@
 -- A change that a memory call makes at once touches no page that is there, but for rights that it does not lessen; and the frames suffice.
 use Rattle.file_model.specs.Errno.{EINVAL, ENOMEM}
-use Rattle.hybrid_laws.proofs.memory.Effects.{count-inside, inside}
 use Rattle.hybrid_laws.proofs.intake.Ack.{falls}
 use Rattle.hybrid_laws.proofs.maps.Lookups.{each-at, no-row}
-use Rattle.hybrid_laws.proofs.node.Primitives.{then}
 use Rattle.hybrid_laws.proofs.maps.Sums.{sum_of}
 use Rattle.hybrid_laws.proofs.maps.Tests.{both}
+use Rattle.hybrid_laws.proofs.memory.Effects.{count-inside, inside}
+use Rattle.hybrid_laws.proofs.node.Primitives.{then}
 use Rattle.hybrid_model.specs.Tallies.{Each}
 use Rattle.isa_model.specs.Memory.{Memory, Page}
 use Rattle.kernel_model.specs.MemoryCalls.{Reply as DecidedReply, Round as DecidedRound, Decision, Now, all_present, any_lessened, brk, brk_down, brk_up, count_present, decide, effect_of, exceeds, gap_below, gap_ends, highest_gap, highest_gap_end, is_aligned, is_fixed, is_gap, is_inside, lessens, low_word, lowest_address, map_anywhere, map_fixed, mmap, most_heap, mprotect, munmap, no_page_in, nothing, pages_for, protect_range, range_for, refuse, rights_of_prot, round_or_now}
 use Rattle.kernel_model.specs.Nodes.{Process}
 use Rattle.kernel_model.specs.Pages.{page_end, page_number, pages_count, range}
-use Rattle.kernel_model.specs.declared.Change.{Change}
 use Rattle.kernel_model.specs.declared.Change.TheVariants.{Brk, Map as ChangeMap, Protect, Unmap}
+use Rattle.kernel_model.specs.declared.Change.{Change}
 use Rattle.mck_flags.specs.declared.rights.Rights.{Rights}
 use Rattle.mck_word.specs.Maps.{at, entries}
 use Rattle.mck_word.specs.Pages.{in_range}

@@ -4,14 +4,14 @@ use Rattle.file_model.specs.Paths.{child}
 use Rattle.hybrid_laws.proofs.calls.Closed.{answered-closed, calls-closed, does-closed, past-closed, raised-closed}
 use Rattle.hybrid_laws.proofs.node.Goes.{GoesAwake, GoesOn, IsAwake, goes-closed, goes-same}
 use Rattle.hybrid_laws.proofs.node.Sound.{Sound, is-awake, sleep-once, sleepers-are, sleeping-of}
-use Rattle.hybrid_laws.specs.Stopped.{stops}
 use Rattle.hybrid_laws.proofs.node.Threads.{thread-changed, thread-is}
-use Rattle.hybrid_laws.proofs.trap.Goes.{NodeSteps, more-sound, more-stops, steps-of, steps-then, stops-fewer}
 use Rattle.hybrid_laws.proofs.states.Quiet.{sleeping-after}
+use Rattle.hybrid_laws.proofs.trap.Goes.{NodeSteps, more-sound, more-stops, steps-of, steps-then, stops-fewer}
+use Rattle.hybrid_laws.specs.Stopped.{stops}
 use Rattle.isa_model.specs.Memory.{may_access}
 use Rattle.isa_model.specs.Registers.{reg}
-use Rattle.isa_model.specs.declared.stops.Stop.{Stop}
 use Rattle.isa_model.specs.declared.stops.Stop.TheVariants.{Break, Ecall, Illegal, Misaligned, On, Fault as StopFault}
+use Rattle.isa_model.specs.declared.stops.Stop.{Stop}
 use Rattle.kernel_model.specs.Calls.{local_call, one_of_calls}
 use Rattle.kernel_model.specs.CloneCalls.{CallDone, are_clone_flags, are_fork_flags, clone, clone_or_fork, cloned_thread, clones, forks, with_thread}
 use Rattle.kernel_model.specs.LocalCalls.{refuses}

@@ -1,13 +1,13 @@
 -- The node after a process begins: it is sound, and the new process is paid for by the thread that was Stopped.
 use Rattle.hybrid_laws.proofs.calls.Closed.{answered-closed}
+use Rattle.hybrid_laws.proofs.maps.Sums.{counted_in, total-put}
 use Rattle.hybrid_laws.proofs.node.Goes.{GoesAwake, GoesOn, IsAwake, goes-closed}
 use Rattle.hybrid_laws.proofs.node.Sound.{Sound}
-use Rattle.hybrid_laws.specs.Stopped.{stops}
-use Rattle.hybrid_laws.proofs.maps.Sums.{counted_in, total-put}
 use Rattle.hybrid_laws.proofs.node.Threads.{thread-is}
-use Rattle.hybrid_laws.proofs.trap.Goes.{NodeSteps, stops-fewer}
-use Rattle.hybrid_laws.proofs.trap.DoneAtOnce.{awake-steps}
 use Rattle.hybrid_laws.proofs.states.Pair.{there-has}
+use Rattle.hybrid_laws.proofs.trap.DoneAtOnce.{awake-steps}
+use Rattle.hybrid_laws.proofs.trap.Goes.{NodeSteps, stops-fewer}
+use Rattle.hybrid_laws.specs.Stopped.{stops}
 use Rattle.hybrid_model.specs.Globals.{HeapHolds}
 use Rattle.kernel_model.specs.CloneCalls.{child_process, child_thread, with_child}
 use Rattle.kernel_model.specs.Nodes.{Node, Process, Thread, answered, has_ended, has_process, instructions_in_all, is_ended, is_stopped, is_there, no_process, process_of, set_a0, thread_of}

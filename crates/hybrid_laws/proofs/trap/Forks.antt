@@ -1,18 +1,18 @@
 -- A trap that makes a process: it keeps what holds of every process, the new one with them, and the one-kernel machine does the same.
 use Rattle.kernel_model.specs.Steps as OneSteps
 use Rattle.std.specs.FinMap as finmap
+use Rattle.hybrid_laws.proofs.maps.Reading.{Each-map, each-same}
 use Rattle.hybrid_laws.proofs.memory.Copying.{bytes_copied, frames_copied, length_copied, put_all, put_all-entries, shown_copied}
-use Rattle.hybrid_laws.specs.OneProcess.{with_table, FramesOf}
 use Rattle.hybrid_laws.proofs.memory.Effects.{own-apart, own-not-free}
-use Rattle.hybrid_laws.proofs.node.EventKeeps.{past_ecall-keeps}
 use Rattle.hybrid_laws.proofs.memory.NewSide.{new_side-keeps, no-at}
+use Rattle.hybrid_laws.proofs.memory.Shapes.{shown-back, stored_all-rights}
+use Rattle.hybrid_laws.proofs.memory.Written.{each-entry, other-frames}
+use Rattle.hybrid_laws.proofs.node.EventKeeps.{past_ecall-keeps}
 use Rattle.hybrid_laws.proofs.node.Keeps.{Keeps, ThreadKeeps, is_pinned, node-keeps, thread-then}
 use Rattle.hybrid_laws.proofs.node.Primitives.{answered-free, at-change, put-new, then}
-use Rattle.hybrid_laws.proofs.maps.Reading.{Each-map, each-same}
 use Rattle.hybrid_laws.proofs.reap.Reap.{count-each, each-none}
-use Rattle.hybrid_laws.proofs.memory.Shapes.{shown-back, stored_all-rights}
 use Rattle.hybrid_laws.proofs.trap.Says.{ForkSays}
-use Rattle.hybrid_laws.proofs.memory.Written.{each-entry, other-frames}
+use Rattle.hybrid_laws.specs.OneProcess.{FramesOf, with_table}
 use Rattle.hybrid_model.specs.Coherence.{OfProcess}
 use Rattle.hybrid_model.specs.Globals.{Frames}
 use Rattle.hybrid_model.specs.Lwk.{memory_here, space_here, trapped, view_here}

@@ -1,11 +1,11 @@
 -- What a trap does to the node as a whole, where it makes no process.
 use Rattle.hybrid_laws.proofs.act.Act.{now}
-use Rattle.hybrid_laws.proofs.node.Goes.{Goes}
 use Rattle.hybrid_laws.proofs.maps.Lookups.{each-at}
 use Rattle.hybrid_laws.proofs.maps.LowestFree.{lowest-free}
+use Rattle.hybrid_laws.proofs.maps.Sums.{counted_in, total-put}
+use Rattle.hybrid_laws.proofs.node.Goes.{Goes}
 use Rattle.hybrid_laws.proofs.node.Sound.{Sound, goes-sound, goes-stays, same-ended, same-instructions, same-made, stopped-less}
 use Rattle.hybrid_laws.specs.Stopped.{stops}
-use Rattle.hybrid_laws.proofs.maps.Sums.{counted_in, total-put}
 use Rattle.hybrid_model.specs.Globals.{Sleeping}
 use Rattle.hybrid_model.specs.Tallies.{Each, as_number}
 use Rattle.kernel_model.specs.CloneCalls.{with_thread}

@@ -1,20 +1,20 @@
 -- Frames that Trap hands out: by a change that is made at once, and to a process that begins.
 use Rattle.hybrid_model.specs.declared.events.Event.TheVariants as Events
 use Rattle.std.specs.FinMap as finmap
-use Rattle.hybrid_laws.proofs.trap.DecideSays.{NowSays}
-use Rattle.hybrid_laws.proofs.memory.FreshFrames.{free-alone, free-once, fresh-effect, unreferenced}
 use Rattle.hybrid_laws.proofs.every.HandsOutLwk.{in-range, tables-put}
 use Rattle.hybrid_laws.proofs.every.Linux.{none-handed, tables-stay}
-use Rattle.hybrid_laws.proofs.memory.NewSide.{no-at}
-use Rattle.hybrid_laws.proofs.reap.Reap.{count-each}
 use Rattle.hybrid_laws.proofs.maps.Tests.{both, some-is}
+use Rattle.hybrid_laws.proofs.memory.FreshFrames.{free-alone, free-once, fresh-effect, unreferenced}
+use Rattle.hybrid_laws.proofs.memory.NewSide.{no-at}
 use Rattle.hybrid_laws.proofs.node.Threads.{thread-is}
-use Rattle.hybrid_laws.proofs.trap.Begins.{Traps, may-traps}
-use Rattle.hybrid_laws.proofs.trap.Changes.{now-fits, says}
-use Rattle.hybrid_laws.proofs.trap.Forks.{shown_forks}
-use Rattle.hybrid_laws.proofs.trap.Says.{ForkSays, TrappedSays, call_regs, trap-says}
+use Rattle.hybrid_laws.proofs.reap.Reap.{count-each}
 use Rattle.hybrid_laws.proofs.states.Pair.{there-has}
 use Rattle.hybrid_laws.proofs.states.Quiet.{own-frames}
+use Rattle.hybrid_laws.proofs.trap.Begins.{Traps, may-traps}
+use Rattle.hybrid_laws.proofs.trap.Changes.{now-fits, says}
+use Rattle.hybrid_laws.proofs.trap.DecideSays.{NowSays}
+use Rattle.hybrid_laws.proofs.trap.Forks.{shown_forks}
+use Rattle.hybrid_laws.proofs.trap.Says.{ForkSays, TrappedSays, call_regs, trap-says}
 use Rattle.hybrid_laws.proofs.trap.WholeChanges.{coherent_trap_changes}
 use Rattle.hybrid_model.specs.Claims.{HandsOutFresh, IsFresh}
 use Rattle.hybrid_model.specs.Events.{after, may, may_here}

@@ -1,18 +1,18 @@
 -- What a trap keeps of the node, whatever it comes to.
-use Rattle.hybrid_laws.specs.OneProcess.{NodeHolds}
 use Rattle.file_model.specs.Errno.{EAGAIN, EINVAL, ENOMEM, ENOSYS}
 use Rattle.file_model.specs.Paths.{child}
 use Rattle.hybrid_laws.proofs.node.EventKeeps.{past_ecall-keeps, with_child-keeps}
-use Rattle.hybrid_laws.proofs.node.LocalKeeps.{SleepersFree, answers-keeps, either-view, exits-keeps, exits_group-keeps, futex-keeps, kill-keeps, return-keeps, sets_clear_address-keeps, sets_robust_list-keeps, sigaction-keeps, sigpending-keeps, sigprocmask-keeps, tgkill-keeps, wait4-keeps, clones-keeps}
 use Rattle.hybrid_laws.proofs.node.Keeps.{Keeps, is_pinned}
+use Rattle.hybrid_laws.proofs.node.LocalKeeps.{SleepersFree, answers-keeps, clones-keeps, either-view, exits-keeps, exits_group-keeps, futex-keeps, kill-keeps, return-keeps, sets_clear_address-keeps, sets_robust_list-keeps, sigaction-keeps, sigpending-keeps, sigprocmask-keeps, tgkill-keeps, wait4-keeps}
 use Rattle.hybrid_laws.proofs.node.Primitives.{answered-free, at-change, does-free, raised-free, same-node, then}
 use Rattle.hybrid_laws.proofs.node.Threads.{IsThread, idle-one, thread-is}
+use Rattle.hybrid_laws.specs.OneProcess.{NodeHolds}
 use Rattle.hybrid_model.specs.Globals.{Sleeping}
 use Rattle.hybrid_model.specs.Tallies.{Each}
 use Rattle.isa_model.specs.Memory.{may_access}
 use Rattle.isa_model.specs.Registers.{reg}
-use Rattle.isa_model.specs.declared.stops.Stop.{Stop}
 use Rattle.isa_model.specs.declared.stops.Stop.TheVariants.{Break, Ecall, Illegal, Misaligned, On, Fault as StopFault}
+use Rattle.isa_model.specs.declared.stops.Stop.{Stop}
 use Rattle.kernel_model.specs.Calls.{local_call, one_of_calls}
 use Rattle.kernel_model.specs.CloneCalls.{CallDone, are_fork_flags, clone, clone_or_fork, forks, parent_number, with_child}
 use Rattle.kernel_model.specs.LocalCalls.{answers, exit_code, refuses}
@@ -21,8 +21,8 @@ use Rattle.kernel_model.specs.Nodes.{Node, Sleeper, Thread, answered, is_asleep,
 use Rattle.kernel_model.specs.Plans.{Delegated, Local, Plan, Unknown, Vm, plan}
 use Rattle.kernel_model.specs.Signals.{View, on_node, raised, signal_of_stop, store}
 use Rattle.kernel_model.specs.Traps.{Begins, Changes, Forks, Trapped, arguments_of, cloned, decided, past_ecall, planned, trap, trap_of_stop, Done}
-use Rattle.kernel_model.specs.declared.Does.{Does}
 use Rattle.kernel_model.specs.declared.Does.TheVariants.{Asleep, Called, InVm, InWait, Ready, Stopped}
+use Rattle.kernel_model.specs.declared.Does.{Does}
 use Rattle.mck_word.specs.Maps.{at, change, count}
 use Rattle.mck_word.specs.Words.{has_bit, int_argument, little_endian, refused}
 use Rattle.mck_word.specs.declared.Access.TheVariants.{Write}

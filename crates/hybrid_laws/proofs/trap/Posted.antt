@@ -1,17 +1,17 @@
 -- A Request posted to its thread's ring keeps what is said of the messages of each place.
-use Rattle.hybrid_laws.proofs.node.Primitives.{then}
 use Rattle.hybrid_laws.proofs.maps.Reading.{Each-both, Each-map, Each-push, EachRing-both}
+use Rattle.hybrid_laws.proofs.node.Primitives.{then}
 use Rattle.hybrid_model.specs.Coherence.{IsPart, is_of_place, is_posted, of_place, Answered, CallsAgree, InOwnRing, Placed, RequestIs, calls_it, is_live, place_in, state_at, tid_in, AtMostInterrupt, Messages, OnlyOwn}
 use Rattle.hybrid_model.specs.Rings.{post}
 use Rattle.hybrid_model.specs.Sides.{Caller}
 use Rattle.hybrid_model.specs.Tallies.{Reads, Each, EachNumbered, with_at, EachRing}
 use Rattle.ikc_ring.specs.declared.Call.{Call}
-use Rattle.ikc_ring.specs.declared.Msg.{Msg}
 use Rattle.ikc_ring.specs.declared.Msg.TheVariants.{Request, Clear, Answer, Interrupt, Reply, Ack, Fault}
+use Rattle.ikc_ring.specs.declared.Msg.{Msg}
 use Rattle.kernel_model.specs.Nodes.{Thread}
 use Rattle.mck_word.specs.Maps.{at}
-use Rattle.request_book.specs.declared.ReqState.{ReqState}
 use Rattle.request_book.specs.declared.ReqState.TheVariants.{Posted}
+use Rattle.request_book.specs.declared.ReqState.{ReqState}
 use Rattle.std.proofs.Common.{arith, refl, sym, ◌∙◌, ap, subst}
 use Rattle.std.proofs.lemmas.Bool.Decides.{nat_tests}
 use Rattle.std.specs.Prelude.{zero, suc, Bool, List, [], false, if◌then◌else◌, length, true, ℕ, ◌++◌, ◌+◌, ◌<◌, ◌∷◌, ◌≡◌, ◌≢◌, None, Option, Some, ◌==◌}

@@ -2,8 +2,8 @@
 use Rattle.file_model.specs.Errno.{EAGAIN, ENOMEM}
 use Rattle.isa_model.specs.Memory.{may_access}
 use Rattle.isa_model.specs.Registers.{reg}
-use Rattle.isa_model.specs.declared.stops.Stop.{Stop}
 use Rattle.isa_model.specs.declared.stops.Stop.TheVariants.{Break, Ecall, Illegal, Misaligned, On, Fault as StopFault}
+use Rattle.isa_model.specs.declared.stops.Stop.{Stop}
 use Rattle.kernel_model.specs.Calls.{local_call, one_of_calls}
 use Rattle.kernel_model.specs.CloneCalls.{CallDone, are_fork_flags, clone, clone_or_fork, forks, with_child}
 use Rattle.kernel_model.specs.LocalCalls.{refuses}

@@ -3,19 +3,19 @@ use Rattle.kernel_model.specs.Steps as OneSteps
 use Rattle.kernel_model.specs.declared.steps.Step.TheVariants as Steps
 use Rattle.hybrid_model.specs.declared.events.Event.TheVariants as Events
 use Rattle.file_model.specs.Paths.{child}
-use Rattle.hybrid_laws.proofs.memory.Effects.{own-apart}
-use Rattle.hybrid_laws.specs.OneProcess.{FramesOf, RingsHold, NodeHolds}
-use Rattle.hybrid_laws.proofs.node.Keeps.{is_pinned, node-keeps}
-use Rattle.hybrid_laws.proofs.states.Simulated.{simulated-one}
-use Rattle.hybrid_laws.specs.Simulated.{Simulated}
 use Rattle.hybrid_laws.proofs.maps.Tests.{both}
+use Rattle.hybrid_laws.proofs.memory.Effects.{own-apart}
+use Rattle.hybrid_laws.proofs.memory.ViewShown.{shown-view}
+use Rattle.hybrid_laws.proofs.node.Keeps.{is_pinned, node-keeps}
 use Rattle.hybrid_laws.proofs.node.Threads.{living-made, thread-is}
+use Rattle.hybrid_laws.proofs.states.Simulated.{simulated-one}
 use Rattle.hybrid_laws.proofs.trap.Begins.{Traps, keeps_begins, may-traps, others_begins, shown_begins}
 use Rattle.hybrid_laws.proofs.trap.Changes.{keeps_changes, others_changes, shown_changes}
 use Rattle.hybrid_laws.proofs.trap.Forks.{born_forks, shown_forks}
 use Rattle.hybrid_laws.proofs.trap.Keeps.{TrappedKeeps, next-new, sleepers-free, trap-idle, trap-keeps, trap_free}
 use Rattle.hybrid_laws.proofs.trap.Says.{TrappedSays, call_regs, trap-says}
-use Rattle.hybrid_laws.proofs.memory.ViewShown.{shown-view}
+use Rattle.hybrid_laws.specs.OneProcess.{FramesOf, NodeHolds, RingsHold}
+use Rattle.hybrid_laws.specs.Simulated.{Simulated}
 use Rattle.hybrid_model.specs.Coherence.{OfProcess}
 use Rattle.hybrid_model.specs.Events.{after_here, may_here}
 use Rattle.hybrid_model.specs.Lwk.{after_trap, child_side, memory_here, space_here, trapped, view_here, with_stores, with_view, child_space}

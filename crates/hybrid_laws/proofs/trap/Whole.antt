@@ -2,28 +2,28 @@
 use Rattle.hybrid_model.specs.declared.events.Event.TheVariants as Events
 use Rattle.hybrid_laws.proofs.trap.CallShown as call_shown
 use Rattle.file_model.specs.Files.{Files, description_of}
-use Rattle.hybrid_laws.proofs.node.Goes.{IsAwake, called-goes}
-use Rattle.hybrid_laws.proofs.node.Keeps.{node-keeps}
+use Rattle.hybrid_laws.proofs.begin_vm.Whole.{length-post, rings-hold}
 use Rattle.hybrid_laws.proofs.maps.Reading.{reads-put}
-use Rattle.hybrid_laws.proofs.node.Sound.{node-holds, sound-of}
-use Rattle.hybrid_laws.specs.Stopped.{stops}
-use Rattle.hybrid_laws.proofs.trap.Started.{starts-under-way}
 use Rattle.hybrid_laws.proofs.maps.Sums.{counted_at, total-put-by}
 use Rattle.hybrid_laws.proofs.maps.Tests.{both, no-none}
-use Rattle.hybrid_laws.proofs.node.Threads.{thread-is}
 use Rattle.hybrid_laws.proofs.maps.Totals.{entries-same}
-use Rattle.hybrid_laws.proofs.trap.Begins.{Traps, keeps_begins, may-traps, others_begins, ring-there}
-use Rattle.hybrid_laws.proofs.trap.Trap.{simulated_trap}
-use Rattle.hybrid_laws.proofs.trap.Goes.{NodeSteps, steps-then, stops-fewer}
-use Rattle.hybrid_laws.proofs.trap.Keeps.{TrappedKeeps, next-new, sleepers-free, trap-idle, trap-keeps, trap_free}
-use Rattle.hybrid_laws.specs.OneProcess.{NodeHolds}
-use Rattle.hybrid_laws.proofs.trap.Says.{TrappedSays, trap-says}
-use Rattle.hybrid_laws.proofs.trap.DoneAtOnce.{TrappedSteps, awake-steps, awake-stopped, past-steps, past-there, trap-steps}
-use Rattle.hybrid_laws.proofs.begin_vm.Whole.{length-post, rings-hold}
+use Rattle.hybrid_laws.proofs.node.Goes.{IsAwake, called-goes}
+use Rattle.hybrid_laws.proofs.node.Keeps.{node-keeps}
+use Rattle.hybrid_laws.proofs.node.Sound.{node-holds, sound-of}
+use Rattle.hybrid_laws.proofs.node.Threads.{thread-is}
 use Rattle.hybrid_laws.proofs.states.Node.{Keeping, coherent-later}
 use Rattle.hybrid_laws.proofs.states.Pair.{has-side, there-open}
 use Rattle.hybrid_laws.proofs.states.Quiet.{other-shown, own-frames}
 use Rattle.hybrid_laws.proofs.states.Steps.{SimulatedPair, simulated-pair}
+use Rattle.hybrid_laws.proofs.trap.Begins.{Traps, keeps_begins, may-traps, others_begins, ring-there}
+use Rattle.hybrid_laws.proofs.trap.DoneAtOnce.{TrappedSteps, awake-steps, awake-stopped, past-steps, past-there, trap-steps}
+use Rattle.hybrid_laws.proofs.trap.Goes.{NodeSteps, steps-then, stops-fewer}
+use Rattle.hybrid_laws.proofs.trap.Keeps.{TrappedKeeps, next-new, sleepers-free, trap-idle, trap-keeps, trap_free}
+use Rattle.hybrid_laws.proofs.trap.Says.{TrappedSays, trap-says}
+use Rattle.hybrid_laws.proofs.trap.Started.{starts-under-way}
+use Rattle.hybrid_laws.proofs.trap.Trap.{simulated_trap}
+use Rattle.hybrid_laws.specs.OneProcess.{NodeHolds}
+use Rattle.hybrid_laws.specs.Stopped.{stops}
 use Rattle.hybrid_model.specs.Coherence.{OfProcess}
 use Rattle.hybrid_model.specs.Events.{after, may, may_here}
 use Rattle.hybrid_model.specs.Globals.{CallsHold, Coherent, IsUnderWay, StatusHolds, description_held, holders, is_number, ring_number, table_of, waits_or_held}
@@ -46,8 +46,8 @@ use Rattle.kernel_model.specs.declared.Does.TheVariants.{Called}
 use Rattle.mck_word.specs.MapLaws.{at-put}
 use Rattle.mck_word.specs.Maps.{Map, at, put, total}
 use Rattle.mck_word.specs.declared.Tid.{Tid}
-use Rattle.request_book.specs.declared.ReqState.{ReqState}
 use Rattle.request_book.specs.declared.ReqState.TheVariants.{Posted}
+use Rattle.request_book.specs.declared.ReqState.{ReqState}
 use Rattle.std.proofs.Common.{ap, arith, refl, subst, sym, ◌∙◌}
 use Rattle.std.proofs.lemmas.Bool.Decides.{nat_tests}
 use Rattle.std.specs.Prelude.{Bool, List, None, Option, Some, cond, false, length, not, true, ℕ, ◌%◌, ◌+◌, ◌==◌, ◌||◌, ◌≡◌, ◌≤◌}

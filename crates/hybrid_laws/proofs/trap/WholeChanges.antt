@@ -3,23 +3,23 @@ use Rattle.hybrid_model.specs.declared.events.Event.TheVariants as Events
 use Rattle.hybrid_laws.proofs.trap.Changes as changes
 use Rattle.file_model.specs.Files.{Files, description_of}
 use Rattle.hybrid_laws.proofs.calls.Closed.{finishes-closed}
-use Rattle.hybrid_laws.proofs.trap.DecideSays.{NowSays}
+use Rattle.hybrid_laws.proofs.maps.Tests.{both}
 use Rattle.hybrid_laws.proofs.memory.EffectCounts.{Absent, absent-now}
 use Rattle.hybrid_laws.proofs.node.Goes.{GoesAwake, GoesOn, IsAwake, goes-closed}
 use Rattle.hybrid_laws.proofs.node.Sound.{Sound, node-holds, sound-of}
-use Rattle.hybrid_laws.proofs.maps.Tests.{both}
 use Rattle.hybrid_laws.proofs.node.Threads.{thread-is}
-use Rattle.hybrid_laws.proofs.trap.Begins.{Traps, may-traps}
-use Rattle.hybrid_laws.proofs.trap.Changes.{keeps_changes, now-fits, others_changes}
-use Rattle.hybrid_laws.proofs.trap.Trap.{simulated_trap}
-use Rattle.hybrid_laws.proofs.trap.Goes.{NodeSteps}
-use Rattle.hybrid_laws.proofs.trap.Says.{TrappedSays, call_regs, trap-says}
-use Rattle.hybrid_laws.proofs.trap.DoneAtOnce.{awake-steps, awake-stopped, past-steps}
 use Rattle.hybrid_laws.proofs.states.Effect.{below-after, break-sound, counted-after, framed-effect, set-ended, set-instructions, set-made, shown-else}
 use Rattle.hybrid_laws.proofs.states.Node.{Keeping, coherent-later}
 use Rattle.hybrid_laws.proofs.states.Pair.{has-side, there-open}
 use Rattle.hybrid_laws.proofs.states.Quiet.{own-frames}
 use Rattle.hybrid_laws.proofs.states.Steps.{SimulatedPair, simulated-pair}
+use Rattle.hybrid_laws.proofs.trap.Begins.{Traps, may-traps}
+use Rattle.hybrid_laws.proofs.trap.Changes.{keeps_changes, now-fits, others_changes}
+use Rattle.hybrid_laws.proofs.trap.DecideSays.{NowSays}
+use Rattle.hybrid_laws.proofs.trap.DoneAtOnce.{awake-steps, awake-stopped, past-steps}
+use Rattle.hybrid_laws.proofs.trap.Goes.{NodeSteps}
+use Rattle.hybrid_laws.proofs.trap.Says.{TrappedSays, call_regs, trap-says}
+use Rattle.hybrid_laws.proofs.trap.Trap.{simulated_trap}
 use Rattle.hybrid_model.specs.Events.{after, may, may_here}
 use Rattle.hybrid_model.specs.Globals.{Coherent, holders, ring_number, table_of}
 use Rattle.hybrid_model.specs.Linux.{pipe_end}

@@ -4,30 +4,30 @@ use Rattle.hybrid_model.specs.declared.events.Event.TheVariants as Events
 use Rattle.hybrid_laws.proofs.trap.Forks as forks
 use Rattle.file_model.specs.Files.{Files, no_description}
 use Rattle.file_model.specs.declared.descriptions.Description.{Description}
-use Rattle.hybrid_laws.proofs.memory.Copying.{length_copied, less-free, bytes_copied}
-use Rattle.hybrid_laws.specs.OneProcess.{with_table, NodeHolds}
+use Rattle.hybrid_laws.proofs.maps.Reading.{each-same}
+use Rattle.hybrid_laws.proofs.maps.Tests.{both}
+use Rattle.hybrid_laws.proofs.memory.Copying.{bytes_copied, length_copied, less-free}
 use Rattle.hybrid_laws.proofs.memory.EffectCounts.{Below, below-lowest}
-use Rattle.hybrid_laws.proofs.trap.ForkNode.{fork-answers, fork-ended, fork-instructions, fork-made, fork-open, fork-paid, fork-there, left_by_fork}
 use Rattle.hybrid_laws.proofs.node.Goes.{IsAwake}
 use Rattle.hybrid_laws.proofs.node.Keeps.{node-keeps}
 use Rattle.hybrid_laws.proofs.node.Primitives.{then}
-use Rattle.hybrid_laws.proofs.maps.Reading.{each-same}
-use Rattle.hybrid_laws.proofs.reap.Reap.{count-each}
 use Rattle.hybrid_laws.proofs.node.Sound.{Sound, node-holds, sound-of}
-use Rattle.hybrid_laws.specs.Stopped.{stops}
-use Rattle.hybrid_laws.proofs.maps.Tests.{both}
+use Rattle.hybrid_laws.proofs.reap.Reap.{count-each}
+use Rattle.hybrid_laws.proofs.states.Born.{KeepingBorn, coherent-born}
+use Rattle.hybrid_laws.proofs.states.Node.{left_with}
+use Rattle.hybrid_laws.proofs.states.Pair.{has-side, there-has}
+use Rattle.hybrid_laws.proofs.states.Quiet.{other-frame, own-frames, own-table}
+use Rattle.hybrid_laws.proofs.states.Steps.{SimulatedPair, simulated-born}
 use Rattle.hybrid_laws.proofs.trap.Begins.{Traps, may-traps}
-use Rattle.hybrid_laws.proofs.trap.Trap.{simulated_trap}
+use Rattle.hybrid_laws.proofs.trap.DoneAtOnce.{awake-stopped, past-steps, past-there}
+use Rattle.hybrid_laws.proofs.trap.ForkNode.{fork-answers, fork-ended, fork-instructions, fork-made, fork-open, fork-paid, fork-there, left_by_fork}
 use Rattle.hybrid_laws.proofs.trap.Forks.{born_forks, written-other}
 use Rattle.hybrid_laws.proofs.trap.Goes.{NodeSteps}
 use Rattle.hybrid_laws.proofs.trap.Keeps.{TrappedKeeps, next-new, sleepers-free, trap-idle, trap-keeps, trap_free}
 use Rattle.hybrid_laws.proofs.trap.Says.{ForkSays, TrappedSays, trap-says}
-use Rattle.hybrid_laws.proofs.trap.DoneAtOnce.{awake-stopped, past-steps, past-there}
-use Rattle.hybrid_laws.proofs.states.Born.{KeepingBorn, coherent-born}
-use Rattle.hybrid_laws.proofs.states.Node.{left_with}
-use Rattle.hybrid_laws.proofs.states.Pair.{has-side, there-has}
-use Rattle.hybrid_laws.proofs.states.Quiet.{own-frames, other-frame, own-table}
-use Rattle.hybrid_laws.proofs.states.Steps.{SimulatedPair, simulated-born}
+use Rattle.hybrid_laws.proofs.trap.Trap.{simulated_trap}
+use Rattle.hybrid_laws.specs.OneProcess.{NodeHolds, with_table}
+use Rattle.hybrid_laws.specs.Stopped.{stops}
 use Rattle.hybrid_model.specs.Coherence.{OfProcess}
 use Rattle.hybrid_model.specs.Events.{after, may, may_here}
 use Rattle.hybrid_model.specs.Globals.{Coherent, Frames, description_held, holders, is_number, ring_number, table_of}

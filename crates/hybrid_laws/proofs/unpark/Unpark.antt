@@ -2,16 +2,16 @@
 use Rattle.hybrid_model.specs.declared.events.Event.TheVariants as Events
 use Rattle.kernel_model.specs.declared.steps.Step.TheVariants as Steps
 use Rattle.kernel_model.specs.Steps as OneSteps
-use Rattle.file_model.specs.declared.operations.Readiness.{Readiness}
 use Rattle.file_model.specs.declared.operations.Readiness.TheVariants.{Ready, NotReady, FileStep}
+use Rattle.file_model.specs.declared.operations.Readiness.{Readiness}
+use Rattle.hybrid_laws.proofs.maps.Reading.{reads-stated, tally-push}
+use Rattle.hybrid_laws.proofs.maps.Tests.{both}
 use Rattle.hybrid_laws.proofs.requests.OneRequest.{goes_on}
-use Rattle.hybrid_laws.proofs.maps.Reading.{tally-push, reads-stated}
 use Rattle.hybrid_laws.proofs.requests.Requests.{PinServes-keeps}
 use Rattle.hybrid_laws.proofs.requests.Serving.{parked-in}
+use Rattle.hybrid_laws.proofs.requests.Speaking.{calls-after, shown-call-at, the-caller}
 use Rattle.hybrid_laws.proofs.states.Simulated.{simulated-one}
 use Rattle.hybrid_laws.specs.Simulated.{Simulated}
-use Rattle.hybrid_laws.proofs.requests.Speaking.{calls-after, shown-call-at, the-caller}
-use Rattle.hybrid_laws.proofs.maps.Tests.{both}
 use Rattle.hybrid_model.specs.Coherence.{OfProcess, Served}
 use Rattle.hybrid_model.specs.Events.{after_here, may_here, unpark_here}
 use Rattle.hybrid_model.specs.Images.{one_step}
@@ -29,8 +29,8 @@ use Rattle.mck_word.specs.Identifiers.{tid}
 use Rattle.mck_word.specs.Maps.{at, each, put}
 use Rattle.mck_word.specs.declared.Req.{Req}
 use Rattle.page_pins.specs.declared.Pin.{Pin}
-use Rattle.request_book.specs.declared.ReqState.{ReqState}
 use Rattle.request_book.specs.declared.ReqState.TheVariants.{Parked, Waiting}
+use Rattle.request_book.specs.declared.ReqState.{ReqState}
 use Rattle.std.proofs.Common.{ap, arith, refl, ◌∙◌}
 use Rattle.std.proofs.lemmas.Bool.Decides.{nat_tests}
 use Rattle.std.specs.Prelude.{Bool, List, Option, Some, [], false, length, not, true, ℕ, ◌&&◌, ◌++◌, ◌==◌, ◌||◌, ◌∷◌, ◌≡◌}

@@ -2,12 +2,12 @@
 use Rattle.hybrid_model.specs.declared.events.Event.TheVariants as Events
 use Rattle.file_model.specs.Files.{description_of}
 use Rattle.hybrid_laws.proofs.maps.Reading.{reads-stated}
-use Rattle.hybrid_laws.proofs.requests.Speaking.{the-thread}
 use Rattle.hybrid_laws.proofs.maps.Tests.{both}
-use Rattle.hybrid_laws.proofs.unpark.Unpark.{MayUnpark, keeps_unpark, may-unpark, simulates_unpark}
+use Rattle.hybrid_laws.proofs.requests.Speaking.{the-thread}
 use Rattle.hybrid_laws.proofs.states.Pair.{coherent-after, has-side, held-after, pair_after}
 use Rattle.hybrid_laws.proofs.states.Steps.{SimulatedPair, simulated-pair}
 use Rattle.hybrid_laws.proofs.states.Turns.{holders-same, stated-other, turns-after}
+use Rattle.hybrid_laws.proofs.unpark.Unpark.{MayUnpark, keeps_unpark, may-unpark, simulates_unpark}
 use Rattle.hybrid_model.specs.Coherence.{OfProcess}
 use Rattle.hybrid_model.specs.Events.{after, may, may_here, unpark_here}
 use Rattle.hybrid_model.specs.Globals.{Coherent, TurnsHold, description_held, ring_number, waits_or_held, CallsHold, StatusHolds}
@@ -23,8 +23,8 @@ use Rattle.mck_word.specs.MapLaws.{at-put}
 use Rattle.mck_word.specs.Maps.{at}
 use Rattle.mck_word.specs.declared.Pid.{Pid}
 use Rattle.mck_word.specs.declared.Req.{Req}
-use Rattle.request_book.specs.declared.ReqState.{ReqState}
 use Rattle.request_book.specs.declared.ReqState.TheVariants.{Parked, Waiting}
+use Rattle.request_book.specs.declared.ReqState.{ReqState}
 use Rattle.std.proofs.Common.{ap, arith, refl, sym, ◌∙◌, subst}
 use Rattle.std.proofs.lemmas.Bool.Decides.{nat_tests}
 use Rattle.std.specs.Prelude.{Bool, None, Option, Some, [], cond, false, if◌then◌else◌, true, unwrap_or, ℕ, ◌++◌, ◌+◌, ◌==◌, ◌∷◌, ◌≡◌}

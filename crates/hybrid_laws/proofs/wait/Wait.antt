@@ -1,15 +1,15 @@
 -- Wait keeps what holds of every process, and is the step Wait of the one-kernel machine.
 use Rattle.kernel_model.specs.declared.steps.Step.TheVariants as Steps
 use Rattle.hybrid_model.specs.declared.events.Event.TheVariants as Events
-use Rattle.hybrid_laws.proofs.node.LocalKeeps.{wait_over-keeps}
+use Rattle.hybrid_laws.proofs.maps.Tests.{both, some-is}
+use Rattle.hybrid_laws.proofs.memory.ViewShown.{shown-view}
 use Rattle.hybrid_laws.proofs.node.Keeps.{Keeps, is_pinned, node-keeps}
+use Rattle.hybrid_laws.proofs.node.LocalKeeps.{wait_over-keeps}
 use Rattle.hybrid_laws.proofs.node.Primitives.{same-node}
+use Rattle.hybrid_laws.proofs.node.Threads.{IsThread, idle-one, thread-is}
 use Rattle.hybrid_laws.proofs.run.Run.{TableApart}
 use Rattle.hybrid_laws.proofs.states.Simulated.{simulated-one}
 use Rattle.hybrid_laws.specs.Simulated.{Simulated}
-use Rattle.hybrid_laws.proofs.maps.Tests.{both, some-is}
-use Rattle.hybrid_laws.proofs.node.Threads.{IsThread, idle-one, thread-is}
-use Rattle.hybrid_laws.proofs.memory.ViewShown.{shown-view}
 use Rattle.hybrid_model.specs.Coherence.{OfProcess}
 use Rattle.hybrid_model.specs.Events.{after_here, may_here}
 use Rattle.hybrid_model.specs.Lwk.{view_here}
@@ -17,8 +17,8 @@ use Rattle.hybrid_model.specs.Pairs.{Here}
 use Rattle.hybrid_model.specs.Sides.{Side}
 use Rattle.kernel_model.specs.Nodes.{Node, Thread, is_living, thread_of}
 use Rattle.kernel_model.specs.Traps.{may_end_wait_of, may_wait, wait_of, waited, waited_for}
-use Rattle.kernel_model.specs.declared.Does.{Does}
 use Rattle.kernel_model.specs.declared.Does.TheVariants.{Asleep, Called, InVm, InWait, Ready, Stopped}
+use Rattle.kernel_model.specs.declared.Does.{Does}
 use Rattle.mck_word.specs.Identifiers.{pid}
 use Rattle.mck_word.specs.Maps.{at}
 use Rattle.mck_word.specs.declared.Tid.{Tid}

@@ -1,15 +1,15 @@
 -- Wait in the whole state.
 use Rattle.hybrid_model.specs.declared.events.Event.TheVariants as Events
 use Rattle.hybrid_laws.proofs.calls.Closed.{wait_over-closed}
+use Rattle.hybrid_laws.proofs.maps.Tests.{both, some-is}
 use Rattle.hybrid_laws.proofs.node.Goes.{GoesAwake, GoesOn, IsAwake, goes-closed}
 use Rattle.hybrid_laws.proofs.node.Sound.{is-awake}
-use Rattle.hybrid_laws.proofs.maps.Tests.{both, some-is}
 use Rattle.hybrid_laws.proofs.node.Threads.{thread-is}
-use Rattle.hybrid_laws.proofs.wait.Wait.{keeps_wait, simulated_wait}
 use Rattle.hybrid_laws.proofs.states.Node.{coherent-later}
 use Rattle.hybrid_laws.proofs.states.Pair.{has-side}
 use Rattle.hybrid_laws.proofs.states.Quiet.{apart-own, keeping-quiet, other-shown, sleeping-after}
 use Rattle.hybrid_laws.proofs.states.Steps.{SimulatedPair, simulated-pair}
+use Rattle.hybrid_laws.proofs.wait.Wait.{keeps_wait, simulated_wait}
 use Rattle.hybrid_model.specs.Events.{after, may, may_here}
 use Rattle.hybrid_model.specs.Globals.{Coherent, ring_number}
 use Rattle.hybrid_model.specs.Lwk.{memory_here, view_here, with_view}
@@ -17,8 +17,8 @@ use Rattle.hybrid_model.specs.Pairs.{Here, Pair, here, side_of}
 use Rattle.kernel_model.specs.Nodes.{Node, Thread, is_asleep, is_living, is_there, thread_of}
 use Rattle.kernel_model.specs.Signals.{stored_all}
 use Rattle.kernel_model.specs.Traps.{may_end_wait_of, wait_of, waited, waited_for}
-use Rattle.kernel_model.specs.declared.Does.{Does}
 use Rattle.kernel_model.specs.declared.Does.TheVariants.{Asleep, Called, InVm, InWait, Ready, Stopped}
+use Rattle.kernel_model.specs.declared.Does.{Does}
 use Rattle.mck_word.specs.Identifiers.{pid}
 use Rattle.mck_word.specs.Maps.{at}
 use Rattle.mck_word.specs.declared.Tid.{Tid}

@@ -1,5 +1,5 @@
-use Rattle.offer_laws.proofs.AnOffer.{an-offer, at-end-is, goes-on}
 use Rattle.offer_laws.proofs.an_offer_is_no_end.Goals as goal
+use Rattle.offer_laws.proofs.AnOffer.{an-offer, at-end-is, goes-on}
 
 pub returns-clause-under_way : goal.returns-clause-under_way
 returns-clause-under_way c = λ pair a e among offers. an-offer pair a e among offers

@@ -1,8 +1,8 @@
+use Rattle.offer_laws.proofs.every_walk.Goals as goal
 use Rattle.hybrid_model.specs.Boot.{boot}
 use Rattle.hybrid_model.specs.Journals.{state}
 use Rattle.offer_laws.proofs.NoOffer.{ends}
 use Rattle.offer_laws.proofs.Walking.{walk-ends, walk-legal, walk-over}
-use Rattle.offer_laws.proofs.every_walk.Goals as goal
 
 pub returns-clause-legal : goal.returns-clause-legal
 returns-clause-legal c = λ job imgs words journal enough walked. (enough, walk-legal job imgs words journal walked)

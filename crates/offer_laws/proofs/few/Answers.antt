@@ -1,7 +1,7 @@
+use Rattle.offer_laws.proofs.few.Goals as goal
 use Rattle.hybrid_laws.proofs.boot.Coherent.{boot-coherent}
 use Rattle.hybrid_model.specs.Boot.{boot}
 use Rattle.offer_laws.proofs.Small.{boot-small, numbers-fit, small-after, small-journal}
-use Rattle.offer_laws.proofs.few.Goals as goal
 
 pub returns-clause-begins : goal.returns-clause-begins
 returns-clause-begins c = λ job imgs prepared. boot-small job imgs prepared

@@ -1,5 +1,5 @@
-use Rattle.offer_laws.proofs.NoOffer.{ends, no-offer-ends}
 use Rattle.offer_laws.proofs.no_offer_is_the_end.Goals as goal
+use Rattle.offer_laws.proofs.NoOffer.{ends, no-offer-ends}
 
 pub returns-clause-over : goal.returns-clause-over
 returns-clause-over c = λ pair cores none. no-offer-ends pair cores none

@@ -1,6 +1,6 @@
+use Rattle.one_changes.proofs.decide.Goals as goal
 use Rattle.kernel_model.specs.MemoryCalls.{decide}
 use Rattle.kernel_model.specs.Nodes.{Process, no_process}
-use Rattle.one_changes.proofs.decide.Goals as goal
 use Rattle.offer_laws.proofs.ChangeFits.{decide-fits}
 use Rattle.offer_laws.specs.ChangeFits.{DecisionFits}
 use Rattle.std.proofs.Common.{ap, refl, subst, sym, ◌∙◌}

@@ -1,5 +1,5 @@
-use Rattle.work_laws.proofs.journal.Allowance.{work-allowed}
 use Rattle.work_laws.proofs.bounded_work.Goals as goal
+use Rattle.work_laws.proofs.journal.Allowance.{work-allowed}
 
 pub returns : goal.returns
 returns c = λ job imgs journal prepared legal. work-allowed job imgs journal prepared legal

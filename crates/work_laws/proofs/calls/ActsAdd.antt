@@ -6,11 +6,11 @@ use Rattle.file_model.specs.Files.{Files, Inode, change_node, closed, descriptor
 use Rattle.file_model.specs.Operations.{FileResult, done, fails}
 use Rattle.file_model.specs.Paths.{Absent, NoPlace, Place, Present, ends_with_slash, is_unlinked, names_of, place_of, place_of_names}
 use Rattle.file_model.specs.declared.descriptions.Description.{Description}
-use Rattle.file_model.specs.declared.descriptions.Target.{Target}
 use Rattle.file_model.specs.declared.descriptions.Target.TheVariants.{OfNode, ReadEnd, WriteEnd, OfConsole}
+use Rattle.file_model.specs.declared.descriptions.Target.{Target}
 use Rattle.hybrid_laws.proofs.files.Operations.{cond-case, with-description}
-use Rattle.hybrid_laws.proofs.node.Primitives.{at-change}
 use Rattle.hybrid_laws.proofs.maps.Sums.{total-put}
+use Rattle.hybrid_laws.proofs.node.Primitives.{at-change}
 use Rattle.mck_word.specs.Lists.{all_but_last}
 use Rattle.mck_word.specs.MapLaws.{at-put}
 use Rattle.mck_word.specs.Maps.{at, count, cut, put, some_row, total}

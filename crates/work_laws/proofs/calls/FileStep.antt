@@ -1,8 +1,8 @@
 -- A file step of a call leaves less to do: an act counts more than what it builds and what it opens, and a stream that can move nothing more ends.
+use Rattle.file_model.specs.Acts.{count_is_valid}
 use Rattle.file_model.specs.FileSteps.{file_step}
 use Rattle.file_model.specs.Files.{Files}
 use Rattle.file_model.specs.Operations.{FileResult}
-use Rattle.file_model.specs.Acts.{count_is_valid}
 use Rattle.file_model.specs.declared.operations.Readiness.TheVariants.{Ready, FileStep}
 use Rattle.hybrid_laws.proofs.maps.Tests.{both, not-true}
 use Rattle.hybrid_model.specs.Globals.{IsUnderWay}
@@ -14,10 +14,10 @@ use Rattle.std.proofs.Common.{ap, arith, refl, subst, sym, ◌∙◌}
 use Rattle.std.proofs.lemmas.Bool.Decides.{nat_tests}
 use Rattle.std.specs.Prelude.{Bool, List, Some, [], cond, false, get_or, length, nat_lt, negsuc, not, pos, true, ℕ, ℤ, ◌&&◌, ◌+◌, ◌==◌, ◌||◌, ◌∷◌, ◌≡◌, ◌≤◌}
 use Rattle.work_laws.proofs.calls.Acts.{act-adds, is_refusal, vectors-refuse}
-use Rattle.work_laws.specs.KernelLeft.{begins_with_act, files_left, is_refused, phase_left, phases_left, progress_left}
 use Rattle.work_laws.proofs.calls.Plans.{pieces-most}
 use Rattle.work_laws.proofs.calls.Settling.{after_left, drop-less, ends-less, full-pieces, left-is, settle-dropped, settle-less}
 use Rattle.work_laws.proofs.files.StreamsAdd.{stream-adds}
+use Rattle.work_laws.specs.KernelLeft.{begins_with_act, files_left, is_refused, phase_left, phases_left, progress_left}
 
 -- the bytes that an act built, to be scattered
 scatter-most : (number : ℕ) (out : List ℕ) (phases : List Phase) → length out ≤ 65_536 → phases_left number (with_scatter out phases) ≤ phases_left number phases + 18

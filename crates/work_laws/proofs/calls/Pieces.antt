@@ -12,8 +12,8 @@ use Rattle.std.proofs.Common.{ap, arith, refl, sym, ◌∙◌}
 use Rattle.std.proofs.lemmas.Bool.Decides.{nat_tests}
 use Rattle.std.specs.List.{list_any}
 use Rattle.std.specs.Prelude.{zero, suc, Bool, List, [], cond, drop, false, get_or, length, min, nat_le, nat_lt, take, true, ℕ, ◌%◌, ◌*◌, ◌++◌, ◌+◌, ◌-◌, ◌/◌, ◌<◌, ◌==◌, ◌^◌, ◌∷◌, ◌≡◌, ◌≤◌}
-use Rattle.work_laws.specs.KernelLeft.{begins_with_act, files_left, phase_left, phases_left, pieces, progress_left}
 use Rattle.work_laws.proofs.calls.Settling.{after_left, ends-less, full-pieces, left-is, on-less, settle-less}
+use Rattle.work_laws.specs.KernelLeft.{begins_with_act, files_left, phase_left, phases_left, pieces, progress_left}
 
 -- ---- the first range, after a piece
 abbrev pub piece_len : Range → ℕ

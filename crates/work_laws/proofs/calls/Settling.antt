@@ -7,9 +7,9 @@ use Rattle.kernel_model.specs.Steps.{status_after}
 use Rattle.kernel_model.specs.declared.ranges.Range.{Range}
 use Rattle.std.proofs.Common.{ap, arith, refl}
 use Rattle.std.specs.Prelude.{Bool, List, None, Option, Some, [], cond, false, length, nat_lt, not, true, ℕ, ℤ, ◌%◌, ◌&&◌, ◌+◌, ◌/◌, ◌==◌, ◌∷◌, ◌≡◌, ◌≤◌}
+use Rattle.work_laws.proofs.calls.Plans.{left-most}
 use Rattle.work_laws.proofs.files.Adding.{leave-less}
 use Rattle.work_laws.specs.KernelLeft.{begins_with_act, files_left, phase_left, phases_left, pieces, pieces_of, progress_left, status_left}
-use Rattle.work_laws.proofs.calls.Plans.{left-most}
 
 -- the call and the files after a step
 abbrev pub after_left : After → ℕ

@@ -13,11 +13,11 @@ use Rattle.std.proofs.Common.{ap, arith, inl, inr, refl, sym, ◌∙◌}
 use Rattle.std.proofs.Math.Nat.{mul-le-mul_left}
 use Rattle.std.specs.Prelude.{Bool, Option, Some, length, true, unwrap_or, ℕ, ℤ, ◌*◌, ◌+◌, ◌≡◌, ◌≤◌, ◌⊎◌}
 use Rattle.work_laws.proofs.calls.FileStep.{file-step-less}
-use Rattle.work_laws.proofs.steps.OneProcess.{OnePays}
-use Rattle.work_laws.specs.KernelLeft.{Prices, files_left, of_mark, own_calls_left, progress_left, status_left}
 use Rattle.work_laws.proofs.calls.Moves.{move-less}
 use Rattle.work_laws.proofs.calls.Settling.{after_left, given-less}
 use Rattle.work_laws.proofs.files.StreamsLess.{PieceLess, QuietStep}
+use Rattle.work_laws.proofs.steps.OneProcess.{OnePays}
+use Rattle.work_laws.specs.KernelLeft.{Prices, files_left, of_mark, own_calls_left, progress_left, status_left}
 
 -- ---- the call of a thread that is under way
 module _ (h : OneHere) (t : ℕ) where

@@ -15,8 +15,8 @@ use Rattle.std.proofs.Common.{ap, arith}
 use Rattle.std.specs.Prelude.{Some, true, ℕ, ◌+◌, ◌≡◌, ◌≤◌}
 use Rattle.work_laws.proofs.sides.AnyRank.{requests-any}
 use Rattle.work_laws.proofs.sides.Services.{count-stated}
-use Rattle.work_laws.specs.Weights.{any_change, of_pin, of_side}
 use Rattle.work_laws.proofs.sides.Wholes.{HereSteps}
+use Rattle.work_laws.specs.Weights.{any_change, of_pin, of_side}
 
 abbrev linux_after : LinuxSide → ℕ → After → LinuxSide
 linux_after l w a = record l { services = put l.services (serves l w) (stepped_service (served l w) a); pins = put l.pins w (record (pin_of l w) { copied = true }) }

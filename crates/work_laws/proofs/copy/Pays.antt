@@ -1,12 +1,12 @@
 -- Copy, whole: the piece leaves less before its call; or it is quiet, and the sides count less.
 use Rattle.hybrid_model.specs.declared.events.Event.TheVariants as Events
 use Rattle.kernel_model.specs.declared.steps.Step.TheVariants as Steps
-use Rattle.hybrid_laws.proofs.maps.Tests.{both}
-use Rattle.hybrid_laws.proofs.copy.Whole.{simulated_copy}
-use Rattle.hybrid_laws.proofs.states.Pair.{has-side}
-use Rattle.hybrid_laws.proofs.states.Steps.{one-here}
 use Rattle.file_model.specs.Files.{Files}
 use Rattle.hybrid_laws.proofs.copy.Copy.{MayCopy}
+use Rattle.hybrid_laws.proofs.copy.Whole.{simulated_copy}
+use Rattle.hybrid_laws.proofs.maps.Tests.{both}
+use Rattle.hybrid_laws.proofs.states.Pair.{has-side}
+use Rattle.hybrid_laws.proofs.states.Steps.{one-here}
 use Rattle.hybrid_model.specs.Coherence.{PinServes}
 use Rattle.hybrid_model.specs.Events.{after, after_here, may, may_here}
 use Rattle.hybrid_model.specs.Globals.{Coherent, ring_number}
@@ -31,16 +31,16 @@ use Rattle.request_book.specs.declared.ReqState.TheVariants.{Held}
 use Rattle.std.proofs.Common.{ap, arith, inl, inr, refl, subst, sym, ◌∙◌}
 use Rattle.std.specs.Prelude.{Bool, List, None, Option, Some, [], length, true, ℕ, ◌&&◌, ◌≡◌, ◌⊎◌}
 use Rattle.work_laws.proofs.calls.Steps.{QuietPiece, piece-pays, when-active}
-use Rattle.work_laws.proofs.copy.Quiet.{moved, m, quiet_copy, request, serving, sides-less}
-use Rattle.work_laws.specs.WholePages.{Full, IsFull, AllFull}
+use Rattle.work_laws.proofs.copy.Quiet.{m, moved, quiet_copy, request, serving, sides-less}
+use Rattle.work_laws.proofs.files.StreamsLess.{QuietStep}
 use Rattle.work_laws.proofs.pages.Steps.{here-full}
+use Rattle.work_laws.proofs.sides.Shown.{progress-is, thread-own}
+use Rattle.work_laws.proofs.sides.Wholes.{SidesPay, sides-are}
+use Rattle.work_laws.proofs.steps.Each.{born-new}
 use Rattle.work_laws.proofs.steps.OneProcess.{KernelPays, OnePays, whole-pays}
 use Rattle.work_laws.specs.KernelLeft.{Prices}
-use Rattle.work_laws.proofs.sides.Shown.{progress-is, thread-own}
-use Rattle.work_laws.proofs.steps.Each.{born-new}
-use Rattle.work_laws.proofs.files.StreamsLess.{QuietStep}
 use Rattle.work_laws.specs.Weights.{of_side}
-use Rattle.work_laws.proofs.sides.Wholes.{SidesPay, sides-are}
+use Rattle.work_laws.specs.WholePages.{AllFull, Full, IsFull}
 
 -- a page that an access is allowed in is there, whole
 page-there : (a : Access) (memory : Memory) (i : ℕ) → Full memory → allows_in a (at memory i) ≡ true → length (bytes_at memory i) ≡ 4096

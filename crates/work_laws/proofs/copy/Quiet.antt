@@ -3,8 +3,8 @@ use Rattle.hybrid_model.specs.declared.events.Event.TheVariants as Events
 use Rattle.request_book.specs.declared.ReqState.TheVariants as States
 use Rattle.file_model.specs.Files.{Files}
 use Rattle.hybrid_laws.proofs.copy.Copy.{MayCopy, may-copy}
-use Rattle.hybrid_laws.proofs.requests.HeldStep.{held-row}
 use Rattle.hybrid_laws.proofs.maps.Sums.{counted_at, counted_in, total-cut, total-cut-by, total-put}
+use Rattle.hybrid_laws.proofs.requests.HeldStep.{held-row}
 use Rattle.hybrid_model.specs.Coherence.{OfProcess, PinServes, holder}
 use Rattle.hybrid_model.specs.Events.{after_here, copy, may_here}
 use Rattle.hybrid_model.specs.Linux.{copied, is_uncopied, moved_by, state_if, stepped_service}
@@ -22,9 +22,9 @@ use Rattle.std.proofs.Common.{ap, arith, refl, sym, ◌∙◌}
 use Rattle.std.proofs.lemmas.Bool.Decides.{nat_tests}
 use Rattle.std.specs.Prelude.{Bool, None, Option, Some, cond, false, is_none, not, sum_by, true, unwrap_or, ℕ, ◌+◌, ◌==◌, ◌≡◌, ◌≤◌, ◌||◌}
 use Rattle.work_laws.proofs.files.Quieter.{Quieter, next-ready, next-waits}
+use Rattle.work_laws.proofs.files.StreamsLess.{QuietStep}
 use Rattle.work_laws.proofs.sides.Rows.{rows-le}
 use Rattle.work_laws.proofs.sides.Services.{service-other, service-own, stated-row, worker-is}
-use Rattle.work_laws.proofs.files.StreamsLess.{QuietStep}
 use Rattle.work_laws.specs.Weights.{of_pin, of_reply, of_request, of_side, rank_held, rank_of}
 
 -- ---- files in which nothing is readier

@@ -1,7 +1,7 @@
 -- Act: the request goes on or ends, and the files change. Park: the request is Parked, and counts less; or it ends, and its description is given back.
 use Rattle.hybrid_model.specs.declared.events.Event.TheVariants as Events
-use Rattle.hybrid_model.specs.Events.{act_file, may_here, park_here}
 use Rattle.hybrid_laws.proofs.park.Park.{may-park}
+use Rattle.hybrid_model.specs.Events.{act_file, may_here, park_here}
 use Rattle.hybrid_model.specs.Linux.{acted, is_uncopied, park_blocks, park_stops, state_if, stepped, stepped_book}
 use Rattle.hybrid_model.specs.Pairs.{Here}
 use Rattle.hybrid_model.specs.Sides.{LinuxSide, looked_up, served, serves, service_of, with_state}
@@ -13,8 +13,8 @@ use Rattle.std.proofs.Common.{ap, arith, refl, sym, ◌∙◌}
 use Rattle.std.specs.Prelude.{cond, false, is_none, not, true, ℕ, ◌+◌, ◌≡◌, ◌≤◌, ◌||◌}
 use Rattle.work_laws.proofs.sides.AnyRank.{rank-some, requests-any}
 use Rattle.work_laws.proofs.sides.Services.{count-stated, number-is, row-is, stated-row}
-use Rattle.work_laws.specs.Weights.{any_change, of_reply, of_request, of_side}
 use Rattle.work_laws.proofs.sides.Wholes.{HerePays, HereSteps}
+use Rattle.work_laws.specs.Weights.{any_change, of_reply, of_request, of_side}
 
 stepped-side : (h : Here) (w : ℕ) (a : After) → count h.side.book.rows ≤ 16
     → of_side h.workers a.files (record h.side { linux = stepped h.side.linux w a; book = stepped_book h.side.linux h.side.book w a }) ≤ of_side h.workers h.node.files h.side + any_change

@@ -16,8 +16,8 @@ use Rattle.mck_word.specs.declared.Pid.{Pid}
 use Rattle.std.proofs.Common.{ap, arith, refl, ◌∙◌}
 use Rattle.std.proofs.lemmas.Bool.Decides.{nat_tests}
 use Rattle.std.specs.Prelude.{Bool, None, Option, Some, cond, false, if◌then◌else◌, nat_lt, true, ℕ, ◌+◌, ◌==◌, ◌≡◌, ◌≤◌}
-use Rattle.work_laws.specs.Weights.{any_change, of_message, of_noted, of_row, of_side}
 use Rattle.work_laws.proofs.sides.Wholes.{HerePays, HereSteps, side-any}
+use Rattle.work_laws.specs.Weights.{any_change, of_message, of_noted, of_row, of_side}
 
 -- the row that a look-up in the table finds has the table's rights
 current : (now : Option Row) (a : Access) → of_row now (looked_up now a) ≡ 0

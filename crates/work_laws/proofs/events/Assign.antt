@@ -15,9 +15,9 @@ use Rattle.mck_word.specs.declared.Pid.{Pid}
 use Rattle.request_book.specs.declared.ReqState.TheVariants.{Held, Waiting}
 use Rattle.std.proofs.Common.{ap, arith, refl, ◌∙◌}
 use Rattle.std.specs.Prelude.{List, Some, is_none, true, ℕ, ◌+◌, ◌≡◌}
-use Rattle.work_laws.proofs.sides.Wholes.{HerePays}
-use Rattle.work_laws.proofs.sides.Services.{service-other, service-own, stated-row}
 use Rattle.work_laws.proofs.sides.AnyRank.{rank-most}
+use Rattle.work_laws.proofs.sides.Services.{service-other, service-own, stated-row}
+use Rattle.work_laws.proofs.sides.Wholes.{HerePays}
 use Rattle.work_laws.specs.Weights.{of_reply, of_request, of_state, rank_of}
 
 module _ (p : ℕ) (h : Here) (ring_number : ℕ → ℕ) (k : OfProcess p h.side h.node h.workers ring_number) (q : Pid) (w : ℕ) (e : may_here (Events.Assign q w) h ≡ true) where

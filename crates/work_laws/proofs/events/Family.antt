@@ -12,13 +12,13 @@ use Rattle.std.specs.Prelude.{Bool, false, true, ◌≡◌, ℕ}
 use Rattle.work_laws.proofs.events.AckClear.{here_ack_clear}
 use Rattle.work_laws.proofs.events.Assign.{here_assign}
 use Rattle.work_laws.proofs.events.BeginVm.{here_begin_vm}
-use Rattle.work_laws.proofs.fetch.Fetch.{here_fetch}
 use Rattle.work_laws.proofs.events.Finish.{here_finish}
-use Rattle.work_laws.proofs.sides.Many.{few-answers, few-requests}
 use Rattle.work_laws.proofs.events.Miss.{here_miss}
 use Rattle.work_laws.proofs.events.Pin.{here_pin}
 use Rattle.work_laws.proofs.events.Unpark.{here_unpark}
 use Rattle.work_laws.proofs.events.Unpin.{here_unpin}
+use Rattle.work_laws.proofs.fetch.Fetch.{here_fetch}
+use Rattle.work_laws.proofs.sides.Many.{few-answers, few-requests}
 use Rattle.work_laws.proofs.sides.Wholes.{HerePays, SidesPay, is_trap, pays-quiet}
 
 abbrev pub changes_one_side : Event → Bool

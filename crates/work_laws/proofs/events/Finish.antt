@@ -13,8 +13,8 @@ use Rattle.std.proofs.Common.{ap, arith, refl}
 use Rattle.std.specs.Prelude.{true, ℕ, ◌≡◌}
 use Rattle.work_laws.proofs.sides.Rows.{row-cut}
 use Rattle.work_laws.proofs.sides.Services.{row-is, service-left}
-use Rattle.work_laws.specs.Weights.{of_back, of_request, of_state}
 use Rattle.work_laws.proofs.sides.Wholes.{HerePays}
+use Rattle.work_laws.specs.Weights.{of_back, of_request, of_state}
 
 pub here_finish : (p : ℕ) (h : Here) (q : Pid) (w : ℕ) → may_here (Events.Finish q w) h ≡ true → HerePays p (Events.Finish q w) h 1 0
 unfolding finish_here finish

@@ -10,8 +10,8 @@ use Rattle.hybrid_model.specs.Pairs.{Here, with_side}
 use Rattle.hybrid_model.specs.Sides.{Row}
 use Rattle.hybrid_model.specs.Spaces.{after_effect}
 use Rattle.hybrid_model.specs.Tallies.{sum_rings, tally}
-use Rattle.ikc_ring.specs.declared.Msg.{Msg}
 use Rattle.ikc_ring.specs.declared.Msg.TheVariants.{Ack, Fault, Reply}
+use Rattle.ikc_ring.specs.declared.Msg.{Msg}
 use Rattle.kernel_model.specs.MemoryCalls.{effect_of, refusal_at_end}
 use Rattle.kernel_model.specs.Nodes.{process_of}
 use Rattle.mck_word.specs.Maps.{Map, at}
@@ -21,10 +21,10 @@ use Rattle.mck_word.specs.declared.Req.{Req}
 use Rattle.std.proofs.Common.{ap, arith, subst, sym}
 use Rattle.std.specs.Prelude.{List, None, Option, Some, length, ℕ, ℤ, ◌+◌, ◌∷◌, ◌≡◌, ◌≤◌}
 use Rattle.work_laws.proofs.fetch.Clear.{answers}
-use Rattle.work_laws.proofs.sides.Late.{rings-late}
 use Rattle.work_laws.proofs.files.Same.{files-intake}
-use Rattle.work_laws.specs.Weights.{of_back, of_change, of_noted, of_side}
+use Rattle.work_laws.proofs.sides.Late.{rings-late}
 use Rattle.work_laws.proofs.sides.Wholes.{HerePays}
+use Rattle.work_laws.specs.Weights.{of_back, of_change, of_noted, of_side}
 
 module _ (p : ℕ) (h : Here) (q : Pid) where
   abbrev Pays : List Msg → ℕ → ℕ → Type 0

@@ -1,8 +1,8 @@
 -- Miss lessens the work: a ready request without a row counts more than a Faulted one and its Fault.
 use Rattle.hybrid_model.specs.declared.events.Event.TheVariants as Events
-use Rattle.hybrid_laws.proofs.miss.Miss.{may-miss}
 use Rattle.hybrid_laws.proofs.maps.Reading.{tally-push}
 use Rattle.hybrid_laws.proofs.maps.Tests.{both}
+use Rattle.hybrid_laws.proofs.miss.Miss.{may-miss}
 use Rattle.hybrid_model.specs.Coherence.{OfProcess}
 use Rattle.hybrid_model.specs.Events.{may_here, miss}
 use Rattle.hybrid_model.specs.Linux.{fault_of, is_free_to_act, is_uncopied, kind_for, may_miss, row_for}
@@ -14,8 +14,8 @@ use Rattle.mck_word.specs.declared.Pid.{Pid}
 use Rattle.request_book.specs.declared.ReqState.TheVariants.{Faulted, Held}
 use Rattle.std.proofs.Common.{ap, arith, refl, ◌∙◌}
 use Rattle.std.specs.Prelude.{is_none, nat_lt, true, ℕ, ◌&&◌, ◌+◌, ◌≡◌}
-use Rattle.work_laws.proofs.sides.Wholes.{HerePays}
 use Rattle.work_laws.proofs.sides.Services.{number-is, row-is, stated-row, worker-is}
+use Rattle.work_laws.proofs.sides.Wholes.{HerePays}
 use Rattle.work_laws.specs.Weights.{of_back, of_reply, of_request, rank_held}
 
 module _ (p : ℕ) (h : Here) (ring_number : ℕ → ℕ) (k : OfProcess p h.side h.node h.workers ring_number) (q : Pid) (w : ℕ) (e : may_here (Events.Miss q w) h ≡ true) where

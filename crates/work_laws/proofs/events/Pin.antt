@@ -1,9 +1,9 @@
 -- Pin lessens the work: a ready request with a row counts more than its pinned piece and the pin.
 use Rattle.hybrid_model.specs.declared.events.Event.TheVariants as Events
 use Rattle.request_book.specs.declared.ReqState.TheVariants as States
-use Rattle.hybrid_laws.proofs.pin.Pin.{may-pin}
 use Rattle.hybrid_laws.proofs.maps.Sums.{total-put}
 use Rattle.hybrid_laws.proofs.maps.Totals.{entries-but}
+use Rattle.hybrid_laws.proofs.pin.Pin.{may-pin}
 use Rattle.hybrid_model.specs.Coherence.{OfProcess, holder}
 use Rattle.hybrid_model.specs.Events.{may_here}
 use Rattle.hybrid_model.specs.Linux.{is_uncopied, pin, pinned, row_for}
@@ -20,8 +20,8 @@ use Rattle.std.proofs.Common.{ap, arith, refl, sym, ◌∙◌}
 use Rattle.std.proofs.lemmas.Bool.Decides.{nat_tests}
 use Rattle.std.specs.Prelude.{Bool, None, Option, Some, cond, false, is_none, not, true, unwrap_or, ℕ, ◌+◌, ◌==◌, ◌≡◌, ◌≤◌}
 use Rattle.work_laws.proofs.sides.Services.{worker-is}
-use Rattle.work_laws.specs.Weights.{of_pin, of_reply, of_request, of_side, rank_held, rank_of}
 use Rattle.work_laws.proofs.sides.Wholes.{HerePays}
+use Rattle.work_laws.specs.Weights.{of_pin, of_reply, of_request, of_side, rank_held, rank_of}
 
 module _ (p : ℕ) (h : Here) (ring_number : ℕ → ℕ) (k : OfProcess p h.side h.node h.workers ring_number) (q : Pid) (w : ℕ) (e : may_here (Events.Pin q w) h ≡ true) where
   abbrev l : LinuxSide

@@ -9,8 +9,8 @@ use Rattle.request_book.specs.declared.ReqState.TheVariants.{Parked, Waiting}
 use Rattle.std.proofs.Common.{ap, arith, refl}
 use Rattle.std.specs.Prelude.{cond, true, ℕ, ◌+◌, ◌≡◌}
 use Rattle.work_laws.proofs.sides.Services.{stated-row}
-use Rattle.work_laws.specs.Weights.{of_reply, of_request}
 use Rattle.work_laws.proofs.sides.Wholes.{HerePays}
+use Rattle.work_laws.specs.Weights.{of_reply, of_request}
 
 pub here_unpark : (p : ℕ) (h : Here) (n : Req) → may_here (Events.Unpark (record { 0 = p }) n) h ≡ true → HerePays p (Events.Unpark (record { 0 = p }) n) h 1 0
 unfolding unpark_here unpark

@@ -19,8 +19,8 @@ use Rattle.request_book.specs.declared.ReqState.{ReqState}
 use Rattle.std.proofs.Common.{ap, arith, refl, sym, ◌∙◌}
 use Rattle.std.proofs.lemmas.Bool.Decides.{nat_tests}
 use Rattle.std.specs.Prelude.{Bool, None, Option, Some, cond, false, is_none, nat_lt, not, true, ℕ, ◌&&◌, ◌+◌, ◌==◌, ◌≡◌, ◌||◌}
-use Rattle.work_laws.specs.Weights.{of_pin, of_reply, of_request, rank_held, rank_of}
 use Rattle.work_laws.proofs.sides.Wholes.{HerePays}
+use Rattle.work_laws.specs.Weights.{of_pin, of_reply, of_request, rank_held, rank_of}
 
 -- a pin that was copied, or whose piece isn't ready, makes no difference
 pin-counts-not : (ready without_row : Bool) (o : Option Pin) → (is_copied o || not ready) ≡ true → rank_held ready without_row false ≡ rank_held ready without_row (is_uncopied o)

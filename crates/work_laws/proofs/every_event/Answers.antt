@@ -1,6 +1,6 @@
+use Rattle.work_laws.proofs.every_event.Goals as goal
 use Rattle.work_laws.proofs.journal.Allowance.{lessens-always}
 use Rattle.work_laws.proofs.journal.EachLessens.{event-lessens}
-use Rattle.work_laws.proofs.every_event.Goals as goal
 
 pub returns-clause-lessens : goal.returns-clause-lessens
 returns-clause-lessens c = λ most pair e coherent whole workers few allowed. event-lessens most pair coherent whole workers few e allowed

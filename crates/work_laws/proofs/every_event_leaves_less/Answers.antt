@@ -1,5 +1,5 @@
-use Rattle.work_laws.proofs.journal.LeftLess.{left-always, left-length, left-less}
 use Rattle.work_laws.proofs.every_event_leaves_less.Goals as goal
+use Rattle.work_laws.proofs.journal.LeftLess.{left-always, left-length, left-less}
 
 pub returns-clause-falls : goal.returns-clause-falls
 returns-clause-falls c = λ pair e coherent small whole allowed. left-less pair e coherent small whole allowed

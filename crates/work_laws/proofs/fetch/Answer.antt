@@ -11,8 +11,8 @@ use Rattle.hybrid_model.specs.Rings.{ring, with_ring}
 use Rattle.hybrid_model.specs.Sides.{LinuxSide, Row, Service, looked_up, serves, service_of, with_state}
 use Rattle.hybrid_model.specs.Tallies.{Reads}
 use Rattle.ikc_ring.specs.declared.Call.{Call}
-use Rattle.ikc_ring.specs.declared.Msg.{Msg}
 use Rattle.ikc_ring.specs.declared.Msg.TheVariants.{Answer}
+use Rattle.ikc_ring.specs.declared.Msg.{Msg}
 use Rattle.isa_model.specs.Memory.{allows}
 use Rattle.kernel_model.specs.Progress.{fault_answer, is_ready, needed_access, next_kind, next_piece}
 use Rattle.mck_word.specs.MapLaws.{at-put}

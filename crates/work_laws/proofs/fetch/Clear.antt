@@ -1,4 +1,5 @@
 -- Fetch of a Clear lessens the work: it counts more than all that it sets back, the requests without their rows and the answers that it overtakes.
+use Rattle.clear_rounds.specs.declared.Phase.TheVariants.{Taken}
 use Rattle.hybrid_laws.proofs.maps.Reading.{first-of, sum-take}
 use Rattle.hybrid_model.specs.Coherence.{ClearIsOf, OfProcess}
 use Rattle.hybrid_model.specs.Events.{fetch_from}
@@ -7,9 +8,8 @@ use Rattle.hybrid_model.specs.Pairs.{Here}
 use Rattle.hybrid_model.specs.Rings.{ring, with_ring}
 use Rattle.hybrid_model.specs.Sides.{LinuxSide, Round, Row, with_phase}
 use Rattle.hybrid_model.specs.Tallies.{Reads, sum_rings, tally}
-use Rattle.clear_rounds.specs.declared.Phase.TheVariants.{Taken}
-use Rattle.ikc_ring.specs.declared.Msg.{Msg}
 use Rattle.ikc_ring.specs.declared.Msg.TheVariants.{Ack, Answer, Clear, Fault, Interrupt, Reply, Request}
+use Rattle.ikc_ring.specs.declared.Msg.{Msg}
 use Rattle.mck_word.specs.Maps.{at, count, keep}
 use Rattle.mck_word.specs.Pages.{in_range}
 use Rattle.mck_word.specs.declared.PageRange.{PageRange}

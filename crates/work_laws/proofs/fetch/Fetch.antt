@@ -7,8 +7,8 @@ use Rattle.hybrid_model.specs.Events.{fetch_from, may_here}
 use Rattle.hybrid_model.specs.Pairs.{Here}
 use Rattle.hybrid_model.specs.Rings.{ring}
 use Rattle.hybrid_model.specs.Tallies.{sum_rings}
-use Rattle.ikc_ring.specs.declared.Msg.{Msg}
 use Rattle.ikc_ring.specs.declared.Msg.TheVariants.{Ack, Answer, Clear, Fault, Interrupt, Reply, Request}
+use Rattle.ikc_ring.specs.declared.Msg.{Msg}
 use Rattle.mck_word.specs.Maps.{count}
 use Rattle.mck_word.specs.declared.Pid.{Pid}
 use Rattle.std.proofs.Common.{arith, refl, subst, sym}
@@ -17,8 +17,8 @@ use Rattle.work_laws.proofs.fetch.Answer.{empty-fetched, row-fetched}
 use Rattle.work_laws.proofs.fetch.Clear.{answers, clear-fetched}
 use Rattle.work_laws.proofs.fetch.Interrupt.{interrupt-fetched}
 use Rattle.work_laws.proofs.fetch.Request.{request-fetched}
-use Rattle.work_laws.specs.Weights.{of_side}
 use Rattle.work_laws.proofs.sides.Wholes.{HerePays}
+use Rattle.work_laws.specs.Weights.{of_side}
 
 module _ (p : ℕ) (h : Here) (ring_number : ℕ → ℕ) (k : OfProcess p h.side h.node h.workers ring_number) (few : count h.side.book.rows ≤ 16) (few_answers : sum_rings answers h.side.to_linux ≤ h.workers) (q : Pid) (r : ℕ) where
   abbrev Less : List Msg → Type 0

@@ -7,8 +7,8 @@ use Rattle.hybrid_model.specs.Pairs.{Here}
 use Rattle.hybrid_model.specs.Rings.{ring}
 use Rattle.hybrid_model.specs.Sides.{LinuxSide, Service}
 use Rattle.ikc_ring.specs.declared.Call.{Call}
-use Rattle.ikc_ring.specs.declared.Msg.{Msg}
 use Rattle.ikc_ring.specs.declared.Msg.TheVariants.{Request}
+use Rattle.ikc_ring.specs.declared.Msg.{Msg}
 use Rattle.mck_word.specs.Maps.{at, put}
 use Rattle.request_book.specs.declared.ReqState.TheVariants.{Posted, Waiting}
 use Rattle.std.proofs.Common.{ap, arith}

@@ -1,12 +1,12 @@
 -- What the changes of files leave of the pieces that may be cut: closing takes some away, a node that is opened or emptied adds one.
 use Rattle.file_model.specs.Files.{Files, Inode, change_description, close_all, hold, is_open, is_same_target, leave, lowest_free, opened, set_offset, settled, used_description, used_node, used_pipe, without_unused_descriptions, without_unused_targets}
 use Rattle.file_model.specs.declared.descriptions.Description.{Description}
-use Rattle.file_model.specs.declared.descriptions.Target.{Target}
 use Rattle.file_model.specs.declared.descriptions.Target.TheVariants.{OfNode, ReadEnd, WriteEnd}
+use Rattle.file_model.specs.declared.descriptions.Target.{Target}
 use Rattle.hybrid_laws.proofs.maps.Lookups.{no-row}
-use Rattle.hybrid_laws.proofs.node.Primitives.{at-change}
 use Rattle.hybrid_laws.proofs.maps.Sums.{counted_at, counted_in, total-cut-by, total-le}
 use Rattle.hybrid_laws.proofs.memory.Written.{each-entry}
+use Rattle.hybrid_laws.proofs.node.Primitives.{at-change}
 use Rattle.hybrid_model.specs.Tallies.{Each, as_number}
 use Rattle.mck_word.specs.MapLaws.{at-collect, at-cut, at-put}
 use Rattle.mck_word.specs.Maps.{and_then, at, collect, cut, entries, total}
@@ -14,8 +14,8 @@ use Rattle.std.proofs.Common.{ap, arith, refl, sym, ◌∙◌}
 use Rattle.std.proofs.lemmas.Bool.Decides.{nat_tests}
 use Rattle.std.specs.List.{list_any}
 use Rattle.std.specs.Prelude.{Bool, List, None, Option, Some, [], cond, false, is_some, length, nat_lt, option_map, sum_by, true, ℕ, ◌&&◌, ◌+◌, ◌-◌, ◌==◌, ◌∷◌, ◌≡◌, ◌≤◌, ◌||◌}
-use Rattle.work_laws.specs.KernelLeft.{console_left, file_left, files_left, pipe_left}
 use Rattle.work_laws.proofs.sides.Rows.{entries-le}
+use Rattle.work_laws.specs.KernelLeft.{console_left, file_left, files_left, pipe_left}
 
 -- ---- tests of rows
 module _ {V : Type 0} (test : ℕ → V → Bool) where

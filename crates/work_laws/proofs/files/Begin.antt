@@ -17,9 +17,9 @@ use Rattle.std.specs.List.{list_any}
 use Rattle.std.specs.Ordering.{nat_cmp}
 use Rattle.std.specs.Prelude.{Bool, List, None, Option, Some, [], false, fold, length, nat_lt, true, ℕ, ◌&&◌, ◌*◌, ◌+◌, ◌∷◌, ◌≡◌, ◌≤◌}
 use Rattle.work_laws.proofs.files.Adding.{opened-was}
+use Rattle.work_laws.proofs.sides.Rows.{entries-most}
 use Rattle.work_laws.proofs.steps.OneProcess.{total-none}
 use Rattle.work_laws.specs.KernelLeft.{console_left, file_left, files_left, pipe_left}
-use Rattle.work_laws.proofs.sides.Rows.{entries-most}
 
 pub record FilesBegin (n : ℕ) (files : Files) : Type 0 where
   pub pipes : files.pipes ≡ no_rows

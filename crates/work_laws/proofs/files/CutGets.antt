@@ -1,22 +1,22 @@
 -- A piece of a reading stream that is cut: it empties a pipe or a console's input, which may be cut no more then; or it comes to the end of a file, where it is ready no more.
 use Rattle.file_model.specs.Files.{Console, Files, console_of, description_of, node_of, pipe_of}
+use Rattle.file_model.specs.Files.{is_open}
 use Rattle.file_model.specs.Streams.{bytes_there, got, moved_on, read_offset, read_ready, read_ready_of}
 use Rattle.file_model.specs.declared.descriptions.Description.{Description}
-use Rattle.file_model.specs.declared.descriptions.Target.{Target}
 use Rattle.file_model.specs.declared.descriptions.Target.TheVariants.{OfNode, ReadEnd, WriteEnd, OfConsole}
+use Rattle.file_model.specs.declared.descriptions.Target.{Target}
 use Rattle.file_model.specs.declared.operations.Readiness.TheVariants.{Ready, NotReady, FileStep}
-use Rattle.file_model.specs.Files.{is_open}
 use Rattle.hybrid_model.specs.Tallies.{as_number}
 use Rattle.kernel_model.specs.Progress.{is_ready}
 use Rattle.mck_word.specs.Maps.{Map, at}
 use Rattle.std.proofs.Common.{ap, arith, inl, inr, length-drop, length-take, refl, sym, ◌∙◌}
 use Rattle.std.proofs.lemmas.Bool.Decides.{nat_tests}
 use Rattle.std.specs.Prelude.{Bool, List, None, Option, Some, [], cond, drop, false, length, nat_lt, take, true, unwrap_or, ℕ, ◌&&◌, ◌+◌, ◌<◌, ◌==◌, ◌≡◌, ◌≤◌, ◌⊎◌}
-use Rattle.work_laws.specs.KernelLeft.{console_left, files_left, pipe_left}
-use Rattle.work_laws.proofs.node.Left.{total-changed}
 use Rattle.work_laws.proofs.files.Quieter.{AsLong, if-ready}
 use Rattle.work_laws.proofs.files.StreamCuts.{as-long-moved, file-there, offset-own}
 use Rattle.work_laws.proofs.files.StreamsAdd.{got-node}
+use Rattle.work_laws.proofs.node.Left.{total-changed}
+use Rattle.work_laws.specs.KernelLeft.{console_left, files_left, pipe_left}
 
 -- nothing gets readier, and the stream's step is not ready, whatever its next piece is
 pub record Idle (files after : Files) (ready : ℕ → Bool) : Type 0 where

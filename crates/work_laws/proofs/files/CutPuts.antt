@@ -3,13 +3,13 @@ use Rattle.file_model.specs.Files.{Console, Files, Inode, change_node, console_o
 use Rattle.file_model.specs.Operations.{FileResult}
 use Rattle.file_model.specs.Streams.{moved_on, put_bytes, total_after, write_offset, write_ready, write_ready_of}
 use Rattle.file_model.specs.declared.descriptions.Description.{Description}
-use Rattle.file_model.specs.declared.descriptions.Target.{Target}
 use Rattle.file_model.specs.declared.descriptions.Target.TheVariants.{OfNode, ReadEnd, WriteEnd, OfConsole}
+use Rattle.file_model.specs.declared.descriptions.Target.{Target}
 use Rattle.file_model.specs.declared.operations.Readiness.TheVariants.{Ready, NotReady, FileStep}
 use Rattle.hybrid_laws.proofs.maps.Lookups.{no-row}
-use Rattle.hybrid_laws.proofs.node.Primitives.{at-change}
 use Rattle.hybrid_laws.proofs.maps.Sums.{counted_at, total-put-by}
 use Rattle.hybrid_laws.proofs.maps.Tests.{both}
+use Rattle.hybrid_laws.proofs.node.Primitives.{at-change}
 use Rattle.hybrid_model.specs.Tallies.{as_number}
 use Rattle.kernel_model.specs.Progress.{is_ready, nat_of}
 use Rattle.mck_word.specs.Lists.{spliced}
@@ -18,11 +18,11 @@ use Rattle.std.proofs.Common.{ap, arith, inl, inr, length-append, length-take, r
 use Rattle.std.proofs.lemmas.Bool.Decides.{nat_tests}
 use Rattle.std.specs.Prelude.{Bool, List, None, Option, Some, [], cond, false, length, nat_le, nat_lt, not, option_map, sum_by, take, true, unwrap_or, ℕ, ◌&&◌, ◌++◌, ◌+◌, ◌<◌, ◌==◌, ◌≡◌, ◌≤◌, ◌⊎◌}
 use Rattle.work_laws.proofs.files.CutGets.{Idle, present}
-use Rattle.work_laws.specs.KernelLeft.{console_left, file_left, files_left, pipe_left}
-use Rattle.work_laws.proofs.node.Left.{total-changed}
 use Rattle.work_laws.proofs.files.Quieter.{AsLong, if-ready}
 use Rattle.work_laws.proofs.files.StreamCuts.{as-long-bytes, as-long-moved, as-long-then, file-there}
 use Rattle.work_laws.proofs.files.StreamsAdd.{moved-less, put-node, spliced-length}
+use Rattle.work_laws.proofs.node.Left.{total-changed}
+use Rattle.work_laws.specs.KernelLeft.{console_left, file_left, files_left, pipe_left}
 
 -- a file on which a description is open is open
 file-open : (files : Files) (d k : ℕ) (x : Description) → at files.descriptions d ≡ Some x → x.target ≡ OfNode k → is_open files (OfNode k) ≡ true

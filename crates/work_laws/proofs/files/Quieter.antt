@@ -3,10 +3,10 @@ use Rattle.file_model.specs.FileSteps.{ready}
 use Rattle.file_model.specs.Files.{Files, description_of, is_open, most_bytes_of_all_files, most_file_bytes, node_of, total_bytes}
 use Rattle.file_model.specs.Streams.{cut_at, read_offset, read_ready_of, ready_if, total_after, write_offset, write_ready_of}
 use Rattle.file_model.specs.declared.descriptions.Description.{Description}
-use Rattle.file_model.specs.declared.descriptions.Target.{Target}
 use Rattle.file_model.specs.declared.descriptions.Target.TheVariants.{OfNode, ReadEnd, WriteEnd, OfConsole}
-use Rattle.file_model.specs.declared.operations.FileOp.{FileOp}
+use Rattle.file_model.specs.declared.descriptions.Target.{Target}
 use Rattle.file_model.specs.declared.operations.FileOp.TheVariants.{Openat, Mkdirat, Unlinkat, Close, Lseek, Ioctl, Pipe2, Fstat, Getdents, Read as ReadAct, Write as WriteAct, Get, Put, Leave}
+use Rattle.file_model.specs.declared.operations.FileOp.{FileOp}
 use Rattle.file_model.specs.declared.operations.Readiness.TheVariants.{Ready, NotReady, FileStep}
 use Rattle.hybrid_laws.proofs.maps.Tests.{both}
 use Rattle.kernel_model.specs.Plans.{Act, Gather, Phase, Scatter, Stream}

@@ -5,8 +5,8 @@ use Rattle.hybrid_laws.proofs.node.Goes.{ignored-goes, wake-goes}
 use Rattle.hybrid_model.specs.Events.{after_here}
 use Rattle.hybrid_model.specs.Lwk.{after_deliver, caller_of, change_made_of, changed, changing_thread, intake, interrupt_as, is_calling, memory_here, round_over, run, run_for, set_break, take_ack, take_fault, take_reply, take_reply_of, view_here}
 use Rattle.hybrid_model.specs.Pairs.{Here, with_side}
-use Rattle.ikc_ring.specs.declared.Msg.{Msg}
 use Rattle.ikc_ring.specs.declared.Msg.TheVariants.{Ack, Answer, Clear, Fault, Interrupt, Reply, Request}
+use Rattle.ikc_ring.specs.declared.Msg.{Msg}
 use Rattle.kernel_model.specs.MemoryCalls.{answer_of_change, effect_of, refusal_at_end}
 use Rattle.kernel_model.specs.Nodes.{Node, Process, change_in, change_process, process_of, ready_to_run, thread_of}
 use Rattle.kernel_model.specs.SignalSets.{with_signal}

@@ -2,16 +2,16 @@
 use Rattle.file_model.specs.Files.{Files, Inode, change_node, description_of, is_open, no_description, no_node, node_of, set_offset, total_bytes}
 use Rattle.file_model.specs.Streams.{moved_on}
 use Rattle.file_model.specs.declared.descriptions.Description.{Description}
-use Rattle.file_model.specs.declared.descriptions.Target.{Target}
 use Rattle.file_model.specs.declared.descriptions.Target.TheVariants.{OfNode, ReadEnd, WriteEnd, OfConsole}
+use Rattle.file_model.specs.declared.descriptions.Target.{Target}
 use Rattle.hybrid_laws.proofs.node.Primitives.{at-change}
 use Rattle.mck_word.specs.Maps.{at, change_row, total}
 use Rattle.std.proofs.Common.{ap, arith, refl, subst, sym, ◌∙◌}
 use Rattle.std.proofs.lemmas.Bool.Decides.{nat_tests}
 use Rattle.std.specs.Prelude.{Bool, None, Option, Some, cond, false, length, option_map, true, unwrap_or, ℕ, ◌==◌, ◌≡◌, ◌≤◌}
 use Rattle.work_laws.proofs.files.Adding.{WasOpen, open-less, was-change}
-use Rattle.work_laws.proofs.node.Left.{total-changed}
 use Rattle.work_laws.proofs.files.Quieter.{AsLong, GoneOn}
+use Rattle.work_laws.proofs.node.Left.{total-changed}
 
 -- ---- offsets that go on, and files that keep their lengths
 module _ (a b c : Files) where

@@ -3,13 +3,13 @@ use Rattle.file_model.specs.FileSteps.{file_step}
 use Rattle.file_model.specs.Files.{Console, Files, Inode, change_console, change_node, change_pipe, console_of, description_of, is_open, most_console_bytes, most_pipe_bytes, pipe_of}
 use Rattle.file_model.specs.Operations.{FileResult, done, fails}
 use Rattle.file_model.specs.Streams.{bytes_there, cut_at, get_piece, got, moved_on, put_bytes, put_piece, read_offset, with_bytes_at, write_error, write_offset, write_ready}
-use Rattle.file_model.specs.declared.descriptions.Target.{Target}
 use Rattle.file_model.specs.declared.descriptions.Target.TheVariants.{OfNode, ReadEnd, WriteEnd, OfConsole}
+use Rattle.file_model.specs.declared.descriptions.Target.{Target}
 use Rattle.file_model.specs.declared.operations.FileOp.TheVariants.{Get, Put}
-use Rattle.file_model.specs.declared.operations.Readiness.{Readiness}
 use Rattle.file_model.specs.declared.operations.Readiness.TheVariants.{Ready, NotReady, FileStep}
-use Rattle.hybrid_laws.proofs.node.Primitives.{at-change}
+use Rattle.file_model.specs.declared.operations.Readiness.{Readiness}
 use Rattle.hybrid_laws.proofs.maps.Sums.{counted_at}
+use Rattle.hybrid_laws.proofs.node.Primitives.{at-change}
 use Rattle.hybrid_model.specs.Tallies.{as_number}
 use Rattle.kernel_model.specs.Plans.{is_read}
 use Rattle.kernel_model.specs.Progress.{Progress, description_found, next_piece, offset_argument, stream_operation}
@@ -20,9 +20,9 @@ use Rattle.std.proofs.lemmas.Bool.Decides.{nat_tests}
 use Rattle.std.proofs.lemmas.List.{length-replicate}
 use Rattle.std.specs.Prelude.{Bool, List, None, Option, Some, cond, drop, false, length, min, nat_lt, option_map, pos, replicate, take, true, ℕ, ◌&&◌, ◌++◌, ◌+◌, ◌-◌, ◌==◌, ◌≡◌, ◌≤◌}
 use Rattle.work_laws.proofs.files.Adding.{offset-less}
-use Rattle.work_laws.specs.KernelLeft.{console_left, file_left, files_left, pipe_left}
 use Rattle.work_laws.proofs.node.Left.{total-change}
 use Rattle.work_laws.proofs.sides.Rows.{entries-le}
+use Rattle.work_laws.specs.KernelLeft.{console_left, file_left, files_left, pipe_left}
 
 -- ---- lengths
 abbrev pub edges : ℕ → ℕ → ℕ

@@ -3,12 +3,12 @@ use Rattle.file_model.specs.FileSteps.{file_step, ready}
 use Rattle.file_model.specs.Files.{Files, description_of}
 use Rattle.file_model.specs.Operations.{FileResult, done, fails}
 use Rattle.file_model.specs.Streams.{bytes_there, get_piece, put_bytes, read_ready, write_error, write_ready}
-use Rattle.file_model.specs.declared.descriptions.Target.{Target}
 use Rattle.file_model.specs.declared.descriptions.Target.TheVariants.{OfNode, ReadEnd, WriteEnd, OfConsole}
-use Rattle.file_model.specs.declared.operations.FileOp.{FileOp}
+use Rattle.file_model.specs.declared.descriptions.Target.{Target}
 use Rattle.file_model.specs.declared.operations.FileOp.TheVariants.{Get, Put}
-use Rattle.file_model.specs.declared.operations.Readiness.{Readiness}
+use Rattle.file_model.specs.declared.operations.FileOp.{FileOp}
 use Rattle.file_model.specs.declared.operations.Readiness.TheVariants.{Ready, NotReady, FileStep}
+use Rattle.file_model.specs.declared.operations.Readiness.{Readiness}
 use Rattle.kernel_model.specs.Plans.{Act, Phase, Stream, is_read}
 use Rattle.kernel_model.specs.Progress.{After, Moved, Progress, advanced, answer_of, description_found, drop_used_up, ends, goes_on, has_piece, is_ready, is_used_up, kind_of_phase, nat_of, next_kind, next_piece, offset_argument, passed_on, ranges_left, settle, streamed, streamed_in, streamed_on, streamed_out, without_empty}
 use Rattle.kernel_model.specs.declared.ranges.Range.{Range}
@@ -16,13 +16,13 @@ use Rattle.mck_word.specs.Lists.{tail}
 use Rattle.std.proofs.Common.{ap, arith, inl, inr, length-drop, length-take, refl, subst, sym, ◌∙◌}
 use Rattle.std.proofs.lemmas.Bool.Decides.{nat_tests}
 use Rattle.std.specs.Prelude.{Bool, List, None, Option, [], cond, drop, false, get_or, length, min, nat_lt, pos, take, true, ℕ, ◌%◌, ◌*◌, ◌+◌, ◌-◌, ◌<◌, ◌==◌, ◌∷◌, ◌≡◌, ◌≤◌, ◌⊎◌}
+use Rattle.work_laws.proofs.calls.Pieces.{UnderWay, part-piece, whole-piece}
+use Rattle.work_laws.proofs.calls.Settling.{after_left, full-pieces, left-is, on-less, settle-less}
 use Rattle.work_laws.proofs.files.CutGets.{get-cut}
 use Rattle.work_laws.proofs.files.CutPuts.{put-cut}
-use Rattle.work_laws.specs.KernelLeft.{begins_with_act, files_left, phases_left, pieces, progress_left}
-use Rattle.work_laws.proofs.calls.Pieces.{UnderWay, part-piece, whole-piece}
 use Rattle.work_laws.proofs.files.Quieter.{AsLong, Quieter, quieter}
-use Rattle.work_laws.proofs.calls.Settling.{after_left, full-pieces, left-is, on-less, settle-less}
 use Rattle.work_laws.proofs.files.StreamsAdd.{get-adds, put_bytes-adds}
+use Rattle.work_laws.specs.KernelLeft.{begins_with_act, files_left, phases_left, pieces, progress_left}
 
 -- a step of a call after which nothing is readier, and its next step isn't ready
 pub record QuietStep (p : Progress) (files : Files) (a : After) : Type 0 where

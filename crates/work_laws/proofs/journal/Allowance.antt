@@ -14,9 +14,9 @@ use Rattle.std.proofs.Math.Nat.{mul-add}
 use Rattle.std.specs.Prelude.{List, true, ℕ, ◌*◌, ◌+◌, ◌≡◌, ◌≤◌}
 use Rattle.work_laws.proofs.journal.BootLeft.{boot-left, processes-begin}
 use Rattle.work_laws.proofs.journal.EachLessens.{event-lessens}
-use Rattle.work_laws.specs.Left.{Lessens, left_to_do, price_of_trap}
 use Rattle.work_laws.proofs.journal.PaidWork.{processes-grow-all, work-paid, workers-stay-all}
 use Rattle.work_laws.proofs.pages.Whole.{whole-boot, whole-journal}
+use Rattle.work_laws.specs.Left.{Lessens, left_to_do, price_of_trap}
 
 added-up : (end first work price most paid : ℕ) → end + work ≤ first + price * paid → first ≤ price * most → work ≤ price * (paid + most)
 added-up end first work price most paid x y = let z = mul-add price paid most in omega (arith, x, y, z)

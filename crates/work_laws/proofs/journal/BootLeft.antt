@@ -1,5 +1,6 @@
 -- What is left to do at the boot: for each guest its console, the end of its process, and the Clear of its first round to come.
 use Rattle.std.specs.FinMap as finmap
+use Rattle.kernel_model.specs.OneKernel as One
 use Rattle.file_model.specs.Files.{Files}
 use Rattle.hybrid_laws.proofs.boot.Coherent.{boots}
 use Rattle.hybrid_laws.proofs.boot.Sides.{by-guest-at}
@@ -11,7 +12,6 @@ use Rattle.job_model.specs.declared.image.Image.{Image}
 use Rattle.job_model.specs.declared.job.GuestLine.{GuestLine}
 use Rattle.job_model.specs.declared.job.Job.{Job}
 use Rattle.kernel_model.specs.Nodes.{Process}
-use Rattle.kernel_model.specs.OneKernel as One
 use Rattle.kernel_model.specs.OneKernel.{Guest, Own, boot_files, boot_node, by_guest, guest_own, guest_process, guest_thread, guests_from, guests_of}
 use Rattle.mck_word.specs.Lists.{count_from}
 use Rattle.mck_word.specs.Maps.{Map, at, count, no_rows, put, total}
@@ -21,11 +21,11 @@ use Rattle.std.proofs.Math.Nat.{mul-le-mul, mul-le-mul_left}
 use Rattle.std.specs.Cmp.{nat_cmp_total}
 use Rattle.std.specs.Prelude.{List, None, Option, Some, [], cond, false, fold, is_some, length, suc, ℕ, ◌*◌, ◌+◌, ◌∷◌, ◌≡◌, ◌≤◌}
 use Rattle.work_laws.proofs.files.Begin.{begin-left, boot-files}
+use Rattle.work_laws.proofs.node.Signals.{no-signals}
+use Rattle.work_laws.proofs.sides.New.{new-left}
 use Rattle.work_laws.proofs.steps.OneProcess.{none-left, none-marked, total-none}
 use Rattle.work_laws.specs.KernelLeft.{Prices, calls_left, kernel_left, marks_left, node_left, of_process, of_thread, own_calls_left, own_marks_left}
 use Rattle.work_laws.specs.Left.{left_to_do, price_of_trap, prices}
-use Rattle.work_laws.proofs.sides.New.{new-left}
-use Rattle.work_laws.proofs.node.Signals.{no-signals}
 use Rattle.work_laws.specs.Weights.{of_side, sides_left}
 
 -- ---- what each guest counts

@@ -13,8 +13,8 @@ use Rattle.run_model.specs.Work.{counts_as_work, if_so, pays as is_paid}
 use Rattle.std.proofs.Common.{arith}
 use Rattle.std.specs.Prelude.{true, ℕ, ◌*◌, ◌+◌, ◌≡◌, ◌≤◌}
 use Rattle.work_laws.proofs.journal.EventsLess.{Pays, cost_of_event, event-less, gain_of_event}
-use Rattle.work_laws.specs.Left.{Lessens, left_to_do, price_of_trap, prices}
 use Rattle.work_laws.proofs.sides.Rows.{count-cut}
+use Rattle.work_laws.specs.Left.{Lessens, left_to_do, price_of_trap, prices}
 use Rattle.work_laws.specs.WholePages.{WholePages}
 
 module _ (most : ℕ) (pair : Pair) (c : Coherent pair) (whole : WholePages pair) (workers : pair.workers ≤ 4) (few : count pair.node.processes ≤ most) where

@@ -4,8 +4,8 @@ use Rattle.ikc_ring.specs.declared.Msg.TheVariants as Messages
 use Rattle.kernel_model.specs.declared.steps.Step.TheVariants as Steps
 use Rattle.hybrid_laws.proofs.every.Event.{whole_event}
 use Rattle.hybrid_laws.proofs.intake.Intake.{by-message}
-use Rattle.hybrid_laws.proofs.park.Park.{MayPark, may-park}
 use Rattle.hybrid_laws.proofs.maps.Tests.{both, some-is}
+use Rattle.hybrid_laws.proofs.park.Park.{MayPark, may-park}
 use Rattle.hybrid_laws.proofs.states.Pair.{has-side, there-has}
 use Rattle.hybrid_laws.proofs.states.Steps.{SimulatedPair, one-here}
 use Rattle.hybrid_model.specs.Coherence.{OfProcess}
@@ -32,24 +32,24 @@ use Rattle.mck_word.specs.declared.Tid.{Tid}
 use Rattle.std.proofs.Common.{ap, arith, inl, inr, refl, subst, sym, ◌∙◌}
 use Rattle.std.proofs.lemmas.Bool.Decides.{nat_tests}
 use Rattle.std.specs.Prelude.{Bool, List, None, Option, Some, [], false, is_some, length, true, unwrap_or, ℕ, ℤ, ◌*◌, ◌+◌, ◌∷◌, ◌≡◌, ◌≤◌}
-use Rattle.work_laws.proofs.events.Act.{here_act, here_park_blocks, here_park_stops}
-use Rattle.work_laws.proofs.events.Answer.{here_answer_empty, here_answer_row}
-use Rattle.work_laws.proofs.steps.ByStep.{EventPays, by-leads, by-none, by-one, by-run, enough, happens, together}
 use Rattle.work_laws.proofs.copy.Copy.{here_copy}
 use Rattle.work_laws.proofs.copy.Pays.{copy-pays}
+use Rattle.work_laws.proofs.events.Act.{here_act, here_park_blocks, here_park_stops}
+use Rattle.work_laws.proofs.events.Answer.{here_answer_empty, here_answer_row}
 use Rattle.work_laws.proofs.events.Family.{one_side}
-use Rattle.work_laws.specs.WholePages.{AllFull}
-use Rattle.work_laws.proofs.steps.OneProcess.{KernelPays}
 use Rattle.work_laws.proofs.events.Intake.{here_intake_ack, here_intake_fault, here_intake_reply}
-use Rattle.work_laws.specs.KernelLeft.{Prices}
 use Rattle.work_laws.proofs.sides.Lwk.{here_deliver, here_interrupt_call, here_interrupt_rest, here_reap, here_run, here_script, here_wait}
 use Rattle.work_laws.proofs.sides.Many.{all-few, few-answers, few-requests}
 use Rattle.work_laws.proofs.sides.Shown.{has-call, is-active, sound-shown, thread-own}
+use Rattle.work_laws.proofs.sides.Wholes.{HerePays, HereSteps, SidesPay, is_trap, pays-quiet, pays-steps}
+use Rattle.work_laws.proofs.steps.ByStep.{EventPays, by-leads, by-none, by-one, by-run, enough, happens, together}
 use Rattle.work_laws.proofs.steps.Each.{cost_of, gain_of, interrupted-call, interrupted-rest, is_plain}
+use Rattle.work_laws.proofs.steps.OneProcess.{KernelPays}
 use Rattle.work_laws.proofs.trap.Pays.{trap_cost}
 use Rattle.work_laws.proofs.trap.Sides.{trap-sides, trap_sides}
+use Rattle.work_laws.specs.KernelLeft.{Prices}
 use Rattle.work_laws.specs.Weights.{any_change, of_change}
-use Rattle.work_laws.proofs.sides.Wholes.{HerePays, HereSteps, SidesPay, is_trap, pays-quiet, pays-steps}
+use Rattle.work_laws.specs.WholePages.{AllFull}
 
 -- a step of a call pays for what it changes of the sides, as a change of memory and the end of a process do
 pub record Pays (k : Prices) (pair : Pair) : Type 0 where

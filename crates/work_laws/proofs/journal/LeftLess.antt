@@ -22,9 +22,9 @@ use Rattle.std.proofs.Common.{ap, arith, refl}
 use Rattle.std.proofs.Math.Nat.{mul-add, mul-le-mul_left}
 use Rattle.std.specs.Prelude.{List, [], false, length, suc, true, ℕ, ◌*◌, ◌+◌, ◌<◌, ◌∷◌, ◌≡◌, ◌≤◌}
 use Rattle.work_laws.proofs.journal.EachLessens.{event-lessens}
-use Rattle.work_laws.specs.Left.{left, left_to_do, may_be_paid, price_of_trap}
 use Rattle.work_laws.proofs.node.Paying.{event-pays, is_run, run-limit, run-stops}
 use Rattle.work_laws.proofs.pages.Whole.{whole-after, whole-boot, whole-journal}
+use Rattle.work_laws.specs.Left.{left, left_to_do, may_be_paid, price_of_trap}
 use Rattle.work_laws.specs.WholePages.{WholePages}
 
 -- ---- over numbers: the limit, what may be paid, and what is left to do

@@ -20,9 +20,9 @@ use Rattle.std.proofs.lemmas.List.Sums.{sum_by-cons}
 use Rattle.std.specs.Cmp.{nat_cmp_total}
 use Rattle.std.specs.Prelude.{Bool, List, None, Option, Some, [], cond, false, is_some, true, ℕ, ◌*◌, ◌+◌, ◌∷◌, ◌≡◌, ◌≤◌}
 use Rattle.work_laws.proofs.journal.EachLessens.{event-lessens}
-use Rattle.work_laws.specs.Left.{left_to_do, price_of_trap}
-use Rattle.work_laws.proofs.sides.Rows.{count-stays}
 use Rattle.work_laws.proofs.pages.Whole.{whole-after}
+use Rattle.work_laws.proofs.sides.Rows.{count-stays}
+use Rattle.work_laws.specs.Left.{left_to_do, price_of_trap}
 use Rattle.work_laws.specs.WholePages.{WholePages}
 
 -- ---- processes

@@ -16,9 +16,9 @@ use Rattle.mck_word.specs.declared.Access.TheVariants.{Write}
 use Rattle.mck_word.specs.declared.End.TheVariants.{Exit}
 use Rattle.std.proofs.Common.{arith, refl, ◌∙◌}
 use Rattle.std.specs.Prelude.{Bool, None, Option, Some, cond, false, length, min, pos, slice_set, true, ℕ, ℤ, ◌%◌, ◌-◌, ◌==◌, ◌^◌, ◌≡◌}
-use Rattle.work_laws.specs.KernelLeft.{Prices, of_thread}
 use Rattle.work_laws.proofs.node.Left.{Adds, adds-more, adds-none, adds-then, answered-adds, dies-adds, does-adds, falls-adds, for_process-adds, for_thread-adds, gone-adds, ignored-adds, process-adds, raised-adds, thread-adds, wake-adds}
 use Rattle.work_laws.proofs.node.Signals.{no-signals}
+use Rattle.work_laws.specs.KernelLeft.{Prices, of_thread}
 
 module _ (k : Prices) (t : ℕ) where
   abbrev One : Node → Node → Type 0

@@ -2,18 +2,18 @@
 use Rattle.hybrid_model.specs.declared.events.Event.TheVariants as Events
 use Rattle.file_model.specs.Files.{Files}
 use Rattle.hybrid_laws.proofs.calls.Closed.{deliver-closed, finishes-closed, for_process-closed, moved-closed, returns-closed, wait_over-closed}
-use Rattle.hybrid_laws.proofs.reap.EndedNode.{closed-instructions, closed-stops, node-closed}
 use Rattle.hybrid_laws.proofs.node.Goes.{goes-moves, goes-then}
 use Rattle.hybrid_laws.proofs.node.Sound.{Sound}
+use Rattle.hybrid_laws.proofs.reap.EndedNode.{closed-instructions, closed-stops, node-closed}
 use Rattle.hybrid_laws.proofs.states.Effect.{set-instructions}
+use Rattle.hybrid_model.specs.Events.{ack_clear, act_file, copy, finish_here, miss, park_here, unpark_here}
 use Rattle.hybrid_model.specs.Events.{after_here, fetch_from}
 use Rattle.hybrid_model.specs.Lwk.{after_deliver, begin_round, begin_vm_of, caller_of, change_made_of, changed, changing_thread, intake, interrupt_as, is_calling, memory_here, post_answer, post_interrupt, reap, round_over, set_break, take_ack, take_fault, take_reply, take_reply_of, view_here}
 use Rattle.hybrid_model.specs.Pairs.{Here, with_side}
 use Rattle.hybrid_model.specs.Rings.{ring}
 use Rattle.hybrid_model.specs.declared.events.Event.{Event}
-use Rattle.ikc_ring.specs.declared.Msg.{Msg}
 use Rattle.ikc_ring.specs.declared.Msg.TheVariants.{Ack, Answer, Clear, Fault, Interrupt, Reply, Request}
-use Rattle.hybrid_model.specs.Events.{ack_clear, act_file, copy, finish_here, miss, park_here, unpark_here}
+use Rattle.ikc_ring.specs.declared.Msg.{Msg}
 use Rattle.kernel_model.specs.MemoryCalls.{answer_of_change, effect_of, refusal_at_end}
 use Rattle.kernel_model.specs.Nodes.{Node, Thread, change_in, is_living, process_of, sent_back, set_files, set_pc, thread_of, without_sleeper}
 use Rattle.kernel_model.specs.Signals.{generate_for_process}

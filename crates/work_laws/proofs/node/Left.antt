@@ -4,19 +4,19 @@ use Rattle.kernel_model.specs.LocalCalls.{falls_asleep, is_waiter, waiters, wake
 use Rattle.kernel_model.specs.Nodes.{Node, Process, Sleeper, Thread, answered, change_process, change_thread, dies, dies_from, has_ended, sent_back, set_a0, set_does, set_pc, without_thread, process_of, thread_of, process_of}
 use Rattle.kernel_model.specs.SignalSets.{has, with_signal, without_signal}
 use Rattle.kernel_model.specs.Signals.{drop_ignored, generate_for_process, generate_for_thread, ignores, raised}
-use Rattle.kernel_model.specs.declared.Does.{Does}
 use Rattle.kernel_model.specs.declared.Does.TheVariants.{Asleep, Ready}
-use Rattle.kernel_model.specs.declared.Life.{Life}
+use Rattle.kernel_model.specs.declared.Does.{Does}
 use Rattle.kernel_model.specs.declared.Life.TheVariants.{Dying, Ended, Living}
+use Rattle.kernel_model.specs.declared.Life.{Life}
 use Rattle.mck_word.specs.MapLaws.{at-collect}
 use Rattle.mck_word.specs.Maps.{Map, and_then, at, change, change_row, each, total}
 use Rattle.mck_word.specs.Words.{word_of}
-use Rattle.mck_word.specs.declared.End.{End}
 use Rattle.mck_word.specs.declared.End.TheVariants.{Killed}
+use Rattle.mck_word.specs.declared.End.{End}
 use Rattle.std.proofs.Common.{ap, arith, refl, ◌∙◌}
 use Rattle.std.specs.Prelude.{Bool, List, None, Option, Some, [], cond, false, filter, not, pos, take, true, ℕ, ℤ, ◌+◌, ◌-◌, ◌==◌, ◌^◌, ◌∷◌, ◌≡◌, ◌≤◌, ◌||◌}
-use Rattle.work_laws.specs.KernelLeft.{Prices, node_left, of_does, of_process, of_thread}
 use Rattle.work_laws.proofs.node.Signals.{with-most, without-most}
+use Rattle.work_laws.specs.KernelLeft.{Prices, node_left, of_does, of_process, of_thread}
 use Rattle.work_laws.specs.SignalCount.{signals}
 
 -- ---- a row that changes

@@ -1,15 +1,15 @@
 -- A trap and a line of the script are paid for: a Stopped thread, or an unsent line, is fewer. A run pays by its instructions for the thread that it may stop.
 use Rattle.hybrid_model.specs.declared.events.Event.TheVariants as Events
 use Rattle.hybrid_laws.proofs.calls.Closed.{finishes-closed, for_process-closed}
-use Rattle.hybrid_laws.proofs.run.Run.{MayRun, may-run}
-use Rattle.hybrid_laws.proofs.node.Sound.{same-instructions, sound-of}
-use Rattle.hybrid_laws.specs.Stopped.{stops}
 use Rattle.hybrid_laws.proofs.maps.Sums.{counted_in}
 use Rattle.hybrid_laws.proofs.maps.Tests.{both}
+use Rattle.hybrid_laws.proofs.node.Sound.{same-instructions, sound-of}
 use Rattle.hybrid_laws.proofs.node.Threads.{thread-is, thread-other}
-use Rattle.hybrid_laws.proofs.trap.Begins.{Traps, may-traps}
-use Rattle.hybrid_laws.proofs.states.Effect.{set-instructions}
+use Rattle.hybrid_laws.proofs.run.Run.{MayRun, may-run}
 use Rattle.hybrid_laws.proofs.run.Whole.{run-counts, run-on, stops-one}
+use Rattle.hybrid_laws.proofs.states.Effect.{set-instructions}
+use Rattle.hybrid_laws.proofs.trap.Begins.{Traps, may-traps}
+use Rattle.hybrid_laws.specs.Stopped.{stops}
 use Rattle.hybrid_model.specs.Events.{after_here, may, may_here, process_of_event}
 use Rattle.hybrid_model.specs.Globals.{Coherent}
 use Rattle.hybrid_model.specs.Lwk.{after_trap, left_of_limit, memory_here, run, run_for, set_break, trapped, view_here}
@@ -20,8 +20,8 @@ use Rattle.kernel_model.specs.MemoryCalls.{answer_of_change, effect_of}
 use Rattle.kernel_model.specs.Nodes.{Node, Process, ScriptLine, Thread, instructions_in_all, is_stopped, is_there, process_of, ready_to_run, set_does, stop_in, thread_of}
 use Rattle.kernel_model.specs.Signals.{generate_for_process}
 use Rattle.kernel_model.specs.Traps.{Begins, Changes, Done, Forks, Ran, Trapped, executed, finishes, line_is, line_may, line_of, may_script, script_sent, sent, trap}
-use Rattle.kernel_model.specs.declared.Does.{Does}
 use Rattle.kernel_model.specs.declared.Does.TheVariants.{Called}
+use Rattle.kernel_model.specs.declared.Does.{Does}
 use Rattle.mck_word.specs.Maps.{at}
 use Rattle.mck_word.specs.declared.Tid.{Tid}
 use Rattle.run_model.specs.Work.{pays as is_paid}
@@ -29,9 +29,9 @@ use Rattle.std.proofs.Common.{ap, arith, refl, ◌∙◌}
 use Rattle.std.specs.Prelude.{Bool, List, None, Option, Some, [], cond, false, filter, find, length, not, suc, true, zero, ℕ, ◌+◌, ◌∷◌, ◌≡◌, ◌≤◌}
 use Rattle.work_laws.proofs.node.Calmer.{Along, along, along-calmer}
 use Rattle.work_laws.proofs.node.EachCalmer.{calmer-event, is_calm}
-use Rattle.work_laws.specs.Left.{may_be_paid}
 use Rattle.work_laws.proofs.node.Settled.{does-settled, finished-settled}
 use Rattle.work_laws.proofs.trap.Ends.{Ends, Others, TrapEnds, goes-others, one-fewer, trap-ends}
+use Rattle.work_laws.specs.Left.{may_be_paid}
 
 -- what an event pays, and that it takes nothing of the limit
 pub record Pays (paid : ℕ) (a b : Node) : Type 0 where

@@ -1,8 +1,8 @@
 -- A thread that traps is Stopped no longer, whatever its call comes to: each call ends with its answer, its rest, or its end.
 use Rattle.file_model.specs.Errno.{EAGAIN, ECHILD, EFAULT, EINVAL, ENOSYS, ESRCH}
+use Rattle.hybrid_laws.proofs.maps.Sums.{counted_in}
 use Rattle.hybrid_laws.proofs.node.Primitives.{at-change}
 use Rattle.hybrid_laws.specs.Stopped.{stops}
-use Rattle.hybrid_laws.proofs.maps.Sums.{counted_in}
 use Rattle.hybrid_model.specs.Tallies.{as_number}
 use Rattle.isa_model.specs.Memory.{may_access, read_bytes}
 use Rattle.isa_model.specs.Registers.{reg}
@@ -14,8 +14,8 @@ use Rattle.kernel_model.specs.SignalCalls.{action_bytes, action_in, checked_sign
 use Rattle.kernel_model.specs.SignalSets.{has, with_signal}
 use Rattle.kernel_model.specs.Signals.{View, drop_ignored, frame_size, generate_for_process, generate_for_thread, ignores, mask_in, on_node, raised, restored, return_from_handler, store, with_action}
 use Rattle.kernel_model.specs.Traps.{finishes}
-use Rattle.kernel_model.specs.declared.Does.{Does}
 use Rattle.kernel_model.specs.declared.Does.TheVariants.{Asleep, InWait, Ready}
+use Rattle.kernel_model.specs.declared.Does.{Does}
 use Rattle.mck_word.specs.MapLaws.{at-cut}
 use Rattle.mck_word.specs.Maps.{at}
 use Rattle.mck_word.specs.Words.{int_argument, little_endian, number_of, refused, word_of}

@@ -1,5 +1,4 @@
 -- How many signals a set has: one more at most with a signal, and one less without one that it has.
-use Rattle.work_laws.specs.SignalCount.{signals}
 use Rattle.guest_laws.specs.Counting.{sum_below}
 use Rattle.kernel_model.specs.SignalSets.{has, minus, union, with_signal, without_signal}
 use Rattle.kernel_model.specs.Signals.{next_of_sets}
@@ -10,6 +9,7 @@ use Rattle.std.proofs.lemmas.Nat.Bits.{and_pow, bit_at-lt, bit_at-pow_other, bit
 use Rattle.std.proofs.lemmas.Nat.{and-not, and_comm, div-mul-add, mod_below, or_disjoint, pow_pos, shr_split}
 use Rattle.std.specs.Int.{bit_at}
 use Rattle.std.specs.Prelude.{zero, suc, Bool, Some, bit_and, bit_or, cond, false, find, nat_lt, true, ℕ, ◌%◌, ◌*◌, ◌+◌, ◌-◌, ◌/◌, ◌<◌, ◌==◌, ◌^◌, ◌≡◌, ◌≢◌, ◌≤◌}
+use Rattle.work_laws.specs.SignalCount.{signals}
 
 -- ---- sums that differ in one place
 sum-same : (f g : ℕ → ℕ) (n : ℕ) → ((k : ℕ) → k < n → f k ≡ g k) → sum_below f n ≡ sum_below g n

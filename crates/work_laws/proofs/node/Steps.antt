@@ -1,11 +1,11 @@
 -- What the steps of the one-kernel machine leave to do for threads and processes: instructions, deliveries, marks, answers, waits, the script and the end of a process.
-use Rattle.hybrid_laws.proofs.maps.Sums.{counted_in, total-cut, total-le}
 use Rattle.file_model.specs.Errno.{ECHILD, EFAULT, EINTR, EPIPE}
 use Rattle.file_model.specs.Files.{close_all}
+use Rattle.hybrid_laws.proofs.maps.Sums.{counted_in, total-cut, total-le}
 use Rattle.isa_model.specs.Instr.{instr}
 use Rattle.isa_model.specs.Memory.{may_access}
-use Rattle.isa_model.specs.declared.stops.Stop.{Stop}
 use Rattle.isa_model.specs.declared.stops.Stop.TheVariants.{Break, Ecall, Illegal, Misaligned, On, Fault as StopFault}
+use Rattle.isa_model.specs.declared.stops.Stop.{Stop}
 use Rattle.kernel_model.specs.CloneCalls.{ended_child, noted_waited, status_of_life, wait_over, waits_for}
 use Rattle.kernel_model.specs.LocalCalls.{answers, refuses}
 use Rattle.kernel_model.specs.Nodes.{Node, Process, ScriptLine, Sleeper, Thread, action_of, answered, change_process, change_thread, dies, dying, has_ended, is_living, no_process, no_thread, process_of, sent_back, set_a0, set_pc, thread_of, without_sleeper, without_thread}
@@ -14,10 +14,10 @@ use Rattle.kernel_model.specs.Signals.{SA_RESETHAND, View, after_reset, deliver,
 use Rattle.kernel_model.specs.Traps.{Ran, called_back, does_after, executed, finishes, is_error, life_ended, line_is, line_of, process_ended, returns, script_sent, sent, wait_of, waited, waited_for}
 use Rattle.kernel_model.specs.declared.Action.{Action}
 use Rattle.kernel_model.specs.declared.Change.{Change}
-use Rattle.kernel_model.specs.declared.Does.{Does}
 use Rattle.kernel_model.specs.declared.Does.TheVariants.{Asleep, Called, InVm, InWait, Ready, Stopped}
-use Rattle.kernel_model.specs.declared.Life.{Life}
+use Rattle.kernel_model.specs.declared.Does.{Does}
 use Rattle.kernel_model.specs.declared.Life.TheVariants.{Dying, Ended, Living}
+use Rattle.kernel_model.specs.declared.Life.{Life}
 use Rattle.mck_word.specs.MapLaws.{at-collect}
 use Rattle.mck_word.specs.Maps.{Map, and_then, at, collect, total}
 use Rattle.mck_word.specs.Words.{little_endian, refused, word_of}
@@ -26,9 +26,9 @@ use Rattle.mck_word.specs.declared.End.TheVariants.{Killed}
 use Rattle.mck_word.specs.declared.Regs.{Regs}
 use Rattle.std.proofs.Common.{ap, arith, refl, subst, sym, ◌∙◌}
 use Rattle.std.specs.Prelude.{Bool, None, Option, Some, cond, false, filter, is_some, not, pos, slice_set, true, unwrap_or, ℕ, ℤ, ◌+◌, ◌-◌, ◌<◌, ◌==◌, ◌^◌, ◌≡◌, ◌≤◌}
-use Rattle.work_laws.specs.KernelLeft.{Prices, node_left, of_does, of_process, of_thread}
 use Rattle.work_laws.proofs.node.Left.{Adds, adds-more, adds-none, adds-then, answered-adds, dies-adds, for_process-adds, for_thread-adds, gone-adds, ignored-adds, process-adds, sent_back-adds, thread-adds, total-changed}
 use Rattle.work_laws.proofs.node.Signals.{next-there, none-has, with-most, without-less}
+use Rattle.work_laws.specs.KernelLeft.{Prices, node_left, of_does, of_process, of_thread}
 use Rattle.work_laws.specs.SignalCount.{signals}
 
 module _ (k : Prices) where

@@ -15,8 +15,8 @@ use Rattle.mck_word.specs.Words.{little_endian}
 use Rattle.std.proofs.Common.{arith, length-take, refl}
 use Rattle.std.specs.Prelude.{List, Some, [], drop, flat_map, fold, length, replicate, take, ℕ, ◌*◌, ◌++◌, ◌+◌, ◌-◌, ◌∷◌, ◌≡◌}
 use Rattle.work_laws.proofs.pages.Memory.{full-put, write_bytes-full}
-use Rattle.work_laws.specs.WholePages.{Full, AllFull}
 use Rattle.work_laws.proofs.pages.Steps.{none-full, put-full}
+use Rattle.work_laws.specs.WholePages.{AllFull, Full}
 
 length-joined : (xs ys : List ℕ) → length (xs ++ ys) ≡ length xs + length ys
 length-joined [] ys = omega arith

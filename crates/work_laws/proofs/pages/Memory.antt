@@ -1,5 +1,4 @@
 -- Each page of a memory has its 4,096 bytes: stores, instructions and effects keep that.
-use Rattle.work_laws.specs.WholePages.{IsFull, Full}
 use Rattle.hybrid_laws.proofs.node.Primitives.{at-change}
 use Rattle.isa_model.specs.Arith.{add_of, store_size}
 use Rattle.isa_model.specs.Atomics.{AmIns, am_decoded, am_result, am_size, is_atomic}
@@ -7,8 +6,8 @@ use Rattle.isa_model.specs.Decode.{decoded}
 use Rattle.isa_model.specs.Instr.{Outcome, after_fetch, do_am, do_arith, do_atomic, do_atomic_at, do_s, execute, execute_am, execute_any, instr, outcome, store_of, wide_of}
 use Rattle.isa_model.specs.Memory.{Memory, Page, fetched, first_lack, lacks, number_at, page_with, put_byte, put_number, stored_unless, write_bytes}
 use Rattle.isa_model.specs.Registers.{reg}
-use Rattle.isa_model.specs.declared.forms.Form.{Form}
 use Rattle.isa_model.specs.declared.forms.Form.TheVariants.{B, I, J, R, S, U}
+use Rattle.isa_model.specs.declared.forms.Form.{Form}
 use Rattle.isa_model.specs.declared.names.Op.{Op}
 use Rattle.isa_model.specs.declared.stops.Lack.{Lack}
 use Rattle.isa_model.specs.declared.stops.Stop.TheVariants.{Misaligned, On, Fault as StopFault}
@@ -24,6 +23,7 @@ use Rattle.mck_word.specs.declared.Regs.{Regs}
 use Rattle.std.proofs.Common.{refl, subst, sym, ◌∙◌}
 use Rattle.std.proofs.lemmas.List.{length-set}
 use Rattle.std.specs.Prelude.{Bool, Err, List, None, Ok, Option, Result, Some, [], cond, false, if◌then◌else◌, length, option_map, suc, true, zero, ℕ, ℤ, ◌%◌, ◌+◌, ◌/◌, ◌==◌, ◌^◌, ◌||◌, ◌∷◌, ◌≡◌}
+use Rattle.work_laws.specs.WholePages.{Full, IsFull}
 
 -- ---- one page
 mapped : (f : Page → Page) → ((x : Page) → length x.bytes ≡ page_size → length (f x).bytes ≡ page_size) → (o : Option Page) → IsFull o → IsFull (option_map f o)

@@ -1,5 +1,4 @@
 -- Each page has its 4,096 bytes after each step of the one-kernel machine.
-use Rattle.work_laws.specs.WholePages.{AllFull, Full, IsFull}
 use Rattle.file_model.specs.FileSteps.{file_step}
 use Rattle.file_model.specs.Files.{Files, description_of}
 use Rattle.file_model.specs.Streams.{bytes_there}
@@ -15,15 +14,16 @@ use Rattle.kernel_model.specs.Steps.{after, after_all, after_here, answer_in, by
 use Rattle.kernel_model.specs.Traps.{Begins, Changes, Done, Forks, Trapped, trap, waited}
 use Rattle.kernel_model.specs.declared.Change.{Change}
 use Rattle.kernel_model.specs.declared.ranges.Range.{Range}
-use Rattle.kernel_model.specs.declared.steps.Step.{Step}
 use Rattle.kernel_model.specs.declared.steps.Step.TheVariants.{Instr, Trap, Deliver, VmFinish, Piece, PieceFault, FileStep, Block, Wake, Return, Mark, Interrupted, Wait, Script, End}
+use Rattle.kernel_model.specs.declared.steps.Step.{Step}
 use Rattle.mck_word.specs.Lists.{spliced}
 use Rattle.mck_word.specs.MapLaws.{at-none, at-put}
 use Rattle.mck_word.specs.Maps.{Map, at, change_row, no_rows, put}
 use Rattle.std.proofs.Common.{ap, arith, length-take, refl, subst, sym, ◌∙◌}
 use Rattle.std.specs.Prelude.{Bool, List, None, Option, Some, [], cond, drop, false, get_or, length, min, take, true, unwrap_or, ℕ, ℤ, ◌%◌, ◌+◌, ◌-◌, ◌==◌, ◌∷◌, ◌≡◌, ◌≤◌}
-use Rattle.work_laws.proofs.pages.Memory.{effect-full, full-change, instr-full, stored_all-full}
 use Rattle.work_laws.proofs.files.StreamsAdd.{spliced-length}
+use Rattle.work_laws.proofs.pages.Memory.{effect-full, full-change, instr-full, stored_all-full}
+use Rattle.work_laws.specs.WholePages.{AllFull, Full, IsFull}
 
 -- ---- a piece keeps the length of its page
 module _ (p : Progress) (files : Files) (process : ℕ) (page : List ℕ) (full : length page ≡ 4096) where

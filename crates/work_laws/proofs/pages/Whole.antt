@@ -1,5 +1,4 @@
 -- Each page that is shown has its 4,096 bytes, from the boot on.
-use Rattle.work_laws.specs.WholePages.{WholePages, AllFull}
 use Rattle.hybrid_laws.proofs.boot.Coherent.{boots}
 use Rattle.hybrid_laws.proofs.every.Event.{whole_event}
 use Rattle.hybrid_laws.proofs.maps.Tests.{both}
@@ -18,6 +17,7 @@ use Rattle.std.proofs.Common.{subst, sym}
 use Rattle.std.specs.Prelude.{List, None, [], true, ◌∷◌, ◌≡◌}
 use Rattle.work_laws.proofs.pages.Boot.{boot-full}
 use Rattle.work_laws.proofs.pages.Steps.{after_all-full}
+use Rattle.work_laws.specs.WholePages.{AllFull, WholePages}
 
 pub whole-boot : (job : Job) (imgs : List Image) → IsPrepared job imgs → shortage job imgs ≡ None → WholePages (boot job imgs)
 whole-boot job imgs prepared enough = subst AllFull (sym (boots job imgs prepared enough)) (boot-full job imgs)

@@ -1,8 +1,8 @@
 -- Where the table changes, an answer may get other rights than the table has: each counts a little more at most. And what a message counts that is posted.
 use Rattle.hybrid_model.specs.Sides.{Row}
 use Rattle.hybrid_model.specs.Tallies.{Reads, sum_rings, tally}
-use Rattle.ikc_ring.specs.declared.Msg.{Msg}
 use Rattle.ikc_ring.specs.declared.Msg.TheVariants.{Ack, Answer, Clear, Fault, Interrupt, Reply, Request}
+use Rattle.ikc_ring.specs.declared.Msg.{Msg}
 use Rattle.std.proofs.Common.{arith}
 use Rattle.std.specs.Prelude.{Bool, List, None, Option, Some, [], cond, false, nat_lt, true, ℕ, ◌*◌, ◌+◌, ◌==◌, ◌∷◌, ◌≤◌}
 use Rattle.work_laws.proofs.fetch.Clear.{answers}

@@ -8,8 +8,8 @@ use Rattle.hybrid_model.specs.Pairs.{Here, ring_of}
 use Rattle.hybrid_model.specs.Rings.{all_empty}
 use Rattle.hybrid_model.specs.Sides.{LinuxSide}
 use Rattle.hybrid_model.specs.Tallies.{sum_rings}
-use Rattle.ikc_ring.specs.declared.Msg.{Msg}
 use Rattle.ikc_ring.specs.declared.Msg.TheVariants.{Interrupt}
+use Rattle.ikc_ring.specs.declared.Msg.{Msg}
 use Rattle.kernel_model.specs.Nodes.{thread_of}
 use Rattle.mck_word.specs.Maps.{at, count, no_rows}
 use Rattle.mck_word.specs.declared.Pid.{Pid}
@@ -17,10 +17,10 @@ use Rattle.mck_word.specs.declared.Tid.{Tid}
 use Rattle.std.proofs.Common.{arith, refl}
 use Rattle.std.proofs.lemmas.Bool.Decides.{nat_tests}
 use Rattle.std.specs.Prelude.{Bool, List, [], false, true, ℕ, ◌+◌, ◌∷◌, ◌≡◌, ◌≤◌}
-use Rattle.work_laws.proofs.sides.AnyRank.{requests-any}
 use Rattle.work_laws.proofs.files.Same.{files-deliver, files-interrupt, files-run, files-script, files-wait}
-use Rattle.work_laws.specs.Weights.{of_message, of_side}
+use Rattle.work_laws.proofs.sides.AnyRank.{requests-any}
 use Rattle.work_laws.proofs.sides.Wholes.{HerePays, HereSteps}
+use Rattle.work_laws.specs.Weights.{of_message, of_side}
 
 sum-empty : (f : Msg → ℕ) (rs : List (List Msg)) → all_empty rs ≡ true → sum_rings f rs ≡ 0
 sum-empty f [] e = refl

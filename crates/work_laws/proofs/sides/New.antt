@@ -7,8 +7,8 @@ use Rattle.ikc_ring.specs.declared.Msg.{Msg}
 use Rattle.mck_word.specs.Maps.{Map, at, entries, no_rows}
 use Rattle.std.proofs.Common.{arith, refl}
 use Rattle.std.specs.Prelude.{[], replicate, suc, sum_by, zero, ℕ, ◌+◌, ◌≡◌}
-use Rattle.work_laws.proofs.steps.OneProcess.{total-none}
 use Rattle.work_laws.proofs.sides.Rows.{rows-le}
+use Rattle.work_laws.proofs.steps.OneProcess.{total-none}
 use Rattle.work_laws.specs.Weights.{of_clear, of_message, of_noted, of_pin, of_request, of_side}
 
 entries-none : {V : Type 0} (f : ℕ × V → ℕ) → sum_by f (entries no_rows) ≡ 0

@@ -6,8 +6,8 @@ use Rattle.hybrid_model.specs.Tallies.{Reads}
 use Rattle.ikc_ring.specs.declared.Call.{Call}
 use Rattle.mck_word.specs.MapLaws.{at-cut, at-put}
 use Rattle.mck_word.specs.Maps.{Map, at, count, cut, entries, put}
-use Rattle.request_book.specs.declared.ReqState.{ReqState}
 use Rattle.request_book.specs.declared.ReqState.TheVariants.{Held}
+use Rattle.request_book.specs.declared.ReqState.{ReqState}
 use Rattle.std.proofs.Common.{ap, arith, refl, sym, ◌∙◌}
 use Rattle.std.proofs.lemmas.Bool.Decides.{nat_tests}
 use Rattle.std.specs.Prelude.{None, Option, Some, cond, false, is_some, sum_by, true, unwrap_or, ℕ, ◌+◌, ◌==◌, ◌≡◌}

@@ -14,13 +14,13 @@ use Rattle.kernel_model.specs.declared.steps.Step.{Step}
 use Rattle.mck_word.specs.declared.Tid.{Tid}
 use Rattle.std.proofs.Common.{ap, arith, refl, subst, sym, ◌∙◌}
 use Rattle.std.specs.Prelude.{[], replicate, suc, true, zero, ℕ, ◌+◌, ◌∷◌, ◌≡◌, ◌≤◌}
+use Rattle.work_laws.proofs.sides.Shown.{sound-shown}
+use Rattle.work_laws.proofs.sides.Wholes.{SidesPay}
+use Rattle.work_laws.proofs.steps.Each.{born-new, cost_of, gain_of, is_plain, step-pays}
 use Rattle.work_laws.proofs.steps.OneProcess.{KernelPays, whole-pays}
+use Rattle.work_laws.proofs.steps.Pay.{instr-pays}
 use Rattle.work_laws.specs.KernelLeft.{Prices, kernel_left}
 use Rattle.work_laws.specs.Left.{left_in}
-use Rattle.work_laws.proofs.sides.Shown.{sound-shown}
-use Rattle.work_laws.proofs.steps.Each.{born-new, cost_of, gain_of, is_plain, step-pays}
-use Rattle.work_laws.proofs.steps.Pay.{instr-pays}
-use Rattle.work_laws.proofs.sides.Wholes.{SidesPay}
 
 abbrev pub EventPays : Prices → Pair → Event → ℕ → ℕ → Type 0
 EventPays k pair e gain cost = left_in k (after pair e) + gain ≤ left_in k pair + cost

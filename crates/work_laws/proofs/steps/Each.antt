@@ -1,23 +1,23 @@
 -- Each step of the one-kernel machine, in the whole state: by how much less or more it leaves to do.
+use Rattle.hybrid_laws.proofs.maps.Tests.{both, not-true}
 use Rattle.kernel_model.specs.MemoryCalls.{refusal_at_end}
 use Rattle.kernel_model.specs.Nodes.{change_in, process_of, thread_of}
 use Rattle.kernel_model.specs.OneKernel.{OneHere, OneKernel, one_here}
-use Rattle.kernel_model.specs.Steps.{after, after_here, answer_in, call_at, call_ended, has_call, is_active, may, may_here, one_changed, one_piece, process_of_step, return_of, vm_finish, vm_finish_of, interrupted_as}
-use Rattle.kernel_model.specs.declared.Change.{Change}
-use Rattle.kernel_model.specs.declared.steps.Step.{Step}
-use Rattle.kernel_model.specs.declared.steps.Step.TheVariants.{Instr, Trap, Deliver, VmFinish, Piece, PieceFault, FileStep, Block, Wake, Return, Mark, Interrupted, Wait, Script, End}
-use Rattle.hybrid_laws.proofs.maps.Tests.{both, not-true}
 use Rattle.kernel_model.specs.Progress.{Progress, has_piece, is_not_ready, next_kind}
+use Rattle.kernel_model.specs.Steps.{after, after_here, answer_in, call_at, call_ended, has_call, is_active, may, may_here, one_changed, one_piece, process_of_step, return_of, vm_finish, vm_finish_of, interrupted_as}
 use Rattle.kernel_model.specs.Steps.{piece_has_right}
 use Rattle.kernel_model.specs.Traps.{may_be_marked}
+use Rattle.kernel_model.specs.declared.Change.{Change}
+use Rattle.kernel_model.specs.declared.steps.Step.TheVariants.{Instr, Trap, Deliver, VmFinish, Piece, PieceFault, FileStep, Block, Wake, Return, Mark, Interrupted, Wait, Script, End}
+use Rattle.kernel_model.specs.declared.steps.Step.{Step}
 use Rattle.mck_word.specs.declared.Tid.{Tid}
 use Rattle.std.proofs.Common.{arith, refl}
 use Rattle.std.specs.Prelude.{Bool, None, Option, Some, false, not, true, ℕ, ℤ, ◌&&◌, ◌≡◌, ◌||◌}
 use Rattle.work_laws.proofs.calls.Steps.{CallsSound, block-pays, fault-pays, file-pays, interrupted-pays, wake-pays}
 use Rattle.work_laws.proofs.steps.OneProcess.{IsNew, KernelPays, OnePays, whole-pays}
-use Rattle.work_laws.specs.KernelLeft.{Prices}
 use Rattle.work_laws.proofs.steps.Pay.{called_back-pays, deliver-pays, end-pays, instr-pays, mark-pays, return-pays, script-pays, vm_finish-pays, wait-pays}
 use Rattle.work_laws.proofs.trap.Pays.{trap-new, trap-pays, trap_cost}
+use Rattle.work_laws.specs.KernelLeft.{Prices}
 
 -- by how much less a step leaves to do, and by how much more it may; pieces and interrupted calls and rests stand apart
 abbrev pub gain_of : Prices → Step → ℕ

@@ -1,7 +1,7 @@
 -- One process of the one-kernel machine: what is left to do in it, and the step to the whole state.
 use Rattle.hybrid_laws.proofs.boot.Coherent.{zero-total}
-use Rattle.hybrid_laws.proofs.memory.NewSide.{no-at}
 use Rattle.hybrid_laws.proofs.maps.Sums.{counted_in, total-put}
+use Rattle.hybrid_laws.proofs.memory.NewSide.{no-at}
 use Rattle.kernel_model.specs.OneKernel.{Call, OneHere, OneKernel, Own, no_own, one_here, put_one_here, with_born}
 use Rattle.mck_word.specs.Maps.{Map, at, no_rows, put, total}
 use Rattle.std.proofs.Common.{ap, arith, refl, ◌∙◌}

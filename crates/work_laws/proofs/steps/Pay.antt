@@ -10,19 +10,19 @@ use Rattle.kernel_model.specs.Signals.{deliver, generate_for_process, is_deliver
 use Rattle.kernel_model.specs.Steps.{answer_in, call_at, has_call, may_change, may_end, one_changed, one_view, return_of, set_break, set_status, vm_finish, vm_finish_of, with_memory, with_node, with_view}
 use Rattle.kernel_model.specs.Traps.{called_back, executed, finishes, life_ended, may_be_called_back, may_deliver, may_wait, may_end_wait_of, process_ended, script_sent, wait_of, waited}
 use Rattle.kernel_model.specs.declared.Change.{Change}
-use Rattle.kernel_model.specs.declared.Does.{Does}
 use Rattle.kernel_model.specs.declared.Does.TheVariants.{Asleep, Called, InVm, InWait, Ready, Stopped}
+use Rattle.kernel_model.specs.declared.Does.{Does}
 use Rattle.mck_word.specs.Maps.{Map, at, collect, count}
 use Rattle.std.proofs.Common.{ap, arith, refl, sym, ◌∙◌}
 use Rattle.std.proofs.Math.Nat.{mul-le-mul_left}
 use Rattle.std.specs.Prelude.{Bool, None, Option, Some, cond, false, filter, is_some, not, true, unwrap_or, ℕ, ℤ, ◌&&◌, ◌+◌, ◌==◌, ◌≡◌, ◌≤◌}
 use Rattle.work_laws.proofs.calls.Steps.{found}
 use Rattle.work_laws.proofs.files.Adding.{close_all-less}
-use Rattle.work_laws.proofs.steps.OneProcess.{OnePays, none-left, none-marked}
-use Rattle.work_laws.specs.KernelLeft.{Prices, files_left, node_left, of_does, of_mark, own_calls_left, own_marks_left, status_left}
+use Rattle.work_laws.proofs.files.Same.{SameFiles, for_process-files, same-files, waited-files}
 use Rattle.work_laws.proofs.node.Left.{Adds, process-adds}
 use Rattle.work_laws.proofs.node.Steps.{called_back-less, deliver-less, ended-less, executed-adds, finishes-less, moved-less, returns-adds, script-adds, waited-less}
-use Rattle.work_laws.proofs.files.Same.{SameFiles, for_process-files, same-files, waited-files}
+use Rattle.work_laws.proofs.steps.OneProcess.{OnePays, none-left, none-marked}
+use Rattle.work_laws.specs.KernelLeft.{Prices, files_left, node_left, of_does, of_mark, own_calls_left, own_marks_left, status_left}
 
 module _ (k : Prices) (h : OneHere) where
   -- the calls stay, and the files count no more

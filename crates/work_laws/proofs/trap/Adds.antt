@@ -4,8 +4,8 @@ use Rattle.file_model.specs.Files.{share}
 use Rattle.hybrid_laws.proofs.maps.Sums.{total-put}
 use Rattle.isa_model.specs.Memory.{may_access}
 use Rattle.isa_model.specs.Registers.{reg}
-use Rattle.isa_model.specs.declared.stops.Stop.{Stop}
 use Rattle.isa_model.specs.declared.stops.Stop.TheVariants.{Break, Ecall, Illegal, Misaligned, On, Fault as StopFault}
+use Rattle.isa_model.specs.declared.stops.Stop.{Stop}
 use Rattle.kernel_model.specs.Calls.{local_call, one_of_calls}
 use Rattle.kernel_model.specs.CloneCalls.{CallDone, are_fork_flags, child_process, child_thread, clone, clone_or_fork, forks, with_child}
 use Rattle.kernel_model.specs.LocalCalls.{answers, refuses}
@@ -21,11 +21,11 @@ use Rattle.mck_word.specs.declared.Access.TheVariants.{Write}
 use Rattle.mck_word.specs.declared.Regs.{Regs}
 use Rattle.std.proofs.Common.{ap, arith, refl}
 use Rattle.std.specs.Prelude.{Bool, List, None, Option, Some, cond, false, get_or, length, nat_le, nat_lt, pos, true, ℕ, ℤ, ◌+◌, ◌==◌, ◌≡◌, ◌≤◌}
-use Rattle.work_laws.proofs.node.CallsAdd.{calls-add, clone-adds}
-use Rattle.work_laws.specs.KernelLeft.{Prices, node_left, of_process, of_thread, progress_left}
-use Rattle.work_laws.proofs.node.Left.{Adds, adds-more, adds-none, adds-then, answered-adds, does-adds, raised-adds, thread-adds}
 use Rattle.work_laws.proofs.calls.Plans.{most_call, plan-few}
+use Rattle.work_laws.proofs.node.CallsAdd.{calls-add, clone-adds}
+use Rattle.work_laws.proofs.node.Left.{Adds, adds-more, adds-none, adds-then, answered-adds, does-adds, raised-adds, thread-adds}
 use Rattle.work_laws.proofs.node.Signals.{no-signals}
+use Rattle.work_laws.specs.KernelLeft.{Prices, node_left, of_process, of_thread, progress_left}
 
 -- a fork makes a process, with its parent's descriptors
 pub record ForkAdds (k : Prices) (a b : Node) : Type 0 where

@@ -1,16 +1,16 @@
 -- What a trap leaves of the node: one thread fewer is Stopped, and no line of the script more and no instruction more.
 use Rattle.file_model.specs.Errno.{EAGAIN, EINVAL, ENOMEM, ENOSYS}
 use Rattle.hybrid_laws.proofs.calls.Closed.{answered-closed, calls-closed, does-closed, past-closed, raised-closed}
+use Rattle.hybrid_laws.proofs.maps.Sums.{counted_in, total-cut, total-le, total-put}
 use Rattle.hybrid_laws.proofs.node.Goes.{Goes, WasThere}
 use Rattle.hybrid_laws.proofs.node.Sound.{same-instructions}
-use Rattle.hybrid_laws.specs.Stopped.{stops}
-use Rattle.hybrid_laws.proofs.maps.Sums.{counted_in, total-cut, total-le, total-put}
 use Rattle.hybrid_laws.proofs.node.Threads.{thread-other}
+use Rattle.hybrid_laws.specs.Stopped.{stops}
 use Rattle.hybrid_model.specs.Tallies.{as_number}
 use Rattle.isa_model.specs.Memory.{may_access}
 use Rattle.isa_model.specs.Registers.{reg}
-use Rattle.isa_model.specs.declared.stops.Stop.{Stop}
 use Rattle.isa_model.specs.declared.stops.Stop.TheVariants.{Break, Ecall, Illegal, Misaligned, On, Fault as StopFault}
+use Rattle.isa_model.specs.declared.stops.Stop.{Stop}
 use Rattle.kernel_model.specs.Calls.{local_call, one_of_calls}
 use Rattle.kernel_model.specs.CloneCalls.{CallDone, are_clone_flags, are_fork_flags, child_process, child_thread, clone, clone_or_fork, cloned_thread, clones, forks, with_child, with_thread}
 use Rattle.kernel_model.specs.LocalCalls.{refuses}

@@ -11,13 +11,13 @@ use Rattle.kernel_model.specs.declared.Does.TheVariants.{Called}
 use Rattle.std.proofs.Common.{ap, arith, refl}
 use Rattle.std.proofs.Math.Nat.{mul-le-mul_left}
 use Rattle.std.specs.Prelude.{None, false, ℕ, ◌*◌, ◌+◌, ◌≡◌, ◌≤◌}
-use Rattle.work_laws.proofs.steps.OneProcess.{IsNew, OnePays}
-use Rattle.work_laws.specs.KernelLeft.{Prices, files_left, of_mark, own_calls_left, progress_left, status_left}
+use Rattle.work_laws.proofs.calls.Plans.{most_call}
 use Rattle.work_laws.proofs.node.Left.{Adds, adds-then, does-adds, process-adds}
 use Rattle.work_laws.proofs.node.Steps.{finishes-adds}
-use Rattle.work_laws.proofs.calls.Plans.{most_call}
+use Rattle.work_laws.proofs.steps.OneProcess.{IsNew, OnePays}
 use Rattle.work_laws.proofs.steps.Pay.{adds-pays, node-pays}
 use Rattle.work_laws.proofs.trap.Adds.{TrapAdds, trap-adds}
+use Rattle.work_laws.specs.KernelLeft.{Prices, files_left, of_mark, own_calls_left, progress_left, status_left}
 
 abbrev pub trap_cost : Prices → ℕ
 trap_cost k = k.step * most_call + 17 + k.change + k.process

@@ -24,14 +24,14 @@ use Rattle.request_book.specs.declared.ReqState.TheVariants.{Posted}
 use Rattle.std.proofs.Common.{ap, arith, refl, ◌∙◌}
 use Rattle.std.specs.Prelude.{None, Option, Some, length, true, ℕ, ◌*◌, ◌+◌, ◌≡◌, ◌≤◌}
 use Rattle.work_laws.proofs.fetch.Clear.{answers}
-use Rattle.work_laws.specs.KernelLeft.{Prices}
+use Rattle.work_laws.proofs.files.Same.{SameFiles, same-files}
 use Rattle.work_laws.proofs.sides.Late.{rings-late}
 use Rattle.work_laws.proofs.sides.Many.{all-few, few-answers}
 use Rattle.work_laws.proofs.sides.New.{new-left}
-use Rattle.work_laws.proofs.files.Same.{SameFiles, same-files}
-use Rattle.work_laws.proofs.trap.Adds.{TrapAdds, trap-adds}
-use Rattle.work_laws.specs.Weights.{any_change, of_clear, of_message, of_request, of_side, sides_left}
 use Rattle.work_laws.proofs.sides.Wholes.{sides-any}
+use Rattle.work_laws.proofs.trap.Adds.{TrapAdds, trap-adds}
+use Rattle.work_laws.specs.KernelLeft.{Prices}
+use Rattle.work_laws.specs.Weights.{any_change, of_clear, of_message, of_request, of_side, sides_left}
 
 -- with so many processes before
 abbrev pub trap_sides : ℕ → ℕ → ℕ

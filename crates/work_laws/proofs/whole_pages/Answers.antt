@@ -1,7 +1,7 @@
+use Rattle.work_laws.proofs.whole_pages.Goals as goal
 use Rattle.hybrid_laws.proofs.boot.Coherent.{boot-coherent}
 use Rattle.hybrid_model.specs.Boot.{boot}
 use Rattle.work_laws.proofs.pages.Whole.{whole-after, whole-boot, whole-journal}
-use Rattle.work_laws.proofs.whole_pages.Goals as goal
 
 pub returns-clause-begins : goal.returns-clause-begins
 returns-clause-begins c = λ job imgs prepared enough. whole-boot job imgs prepared enough

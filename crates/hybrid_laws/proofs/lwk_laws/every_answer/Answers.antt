@@ -1,6 +1,6 @@
+use Rattle.hybrid_laws.proofs.lwk_laws.every_answer.Goals as goal
 use Rattle.hybrid_laws.proofs.answer.WholeEmpty.{coherent_answer_empty, simulated_pair_answer_empty}
 use Rattle.hybrid_laws.proofs.answer.WholeRow.{coherent_answer_row, simulated_pair_answer_row}
-use Rattle.hybrid_laws.proofs.lwk_laws.every_answer.Goals as goal
 
 pub returns-clause-with_row : goal.returns-clause-with_row
 returns-clause-with_row c = λ pair q w row coherent allowed is. (coherent_answer_row pair coherent q w allowed row is, simulated_pair_answer_row pair coherent q w allowed row is)

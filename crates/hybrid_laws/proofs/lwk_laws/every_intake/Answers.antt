@@ -1,5 +1,5 @@
-use Rattle.hybrid_laws.proofs.every.QuietLwk.{coherent_intake, simulated_pair_intake}
 use Rattle.hybrid_laws.proofs.lwk_laws.every_intake.Goals as goal
+use Rattle.hybrid_laws.proofs.every.QuietLwk.{coherent_intake, simulated_pair_intake}
 
 pub returns-clause-coherent : goal.returns-clause-coherent
 returns-clause-coherent c = λ pair q coherent allowed. coherent_intake pair coherent q allowed

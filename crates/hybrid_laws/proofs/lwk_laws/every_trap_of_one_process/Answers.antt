@@ -1,5 +1,5 @@
-use Rattle.hybrid_laws.proofs.trap.Trap.{keeps_trap, others_trap, simulated_trap}
 use Rattle.hybrid_laws.proofs.lwk_laws.every_trap_of_one_process.Goals as goal
+use Rattle.hybrid_laws.proofs.trap.Trap.{keeps_trap, others_trap, simulated_trap}
 
 pub returns-clause-own : goal.returns-clause-own
 returns-clause-own c = λ p workers t h allowed mine nodes rings k. keeps_trap p t h allowed mine nodes workers rings k

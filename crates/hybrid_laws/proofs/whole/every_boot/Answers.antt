@@ -1,5 +1,5 @@
-use Rattle.hybrid_laws.proofs.boot.Coherent.{begins, boot-coherent, boots}
 use Rattle.hybrid_laws.proofs.whole.every_boot.Goals as goal
+use Rattle.hybrid_laws.proofs.boot.Coherent.{begins, boot-coherent, boots}
 
 pub returns-clause-coherent : goal.returns-clause-coherent
 returns-clause-coherent c = λ job imgs prepared enough. boot-coherent job imgs prepared enough

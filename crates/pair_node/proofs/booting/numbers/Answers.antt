@@ -1,3 +1,4 @@
+use Rattle.pair_node.proofs.booting.numbers.Goals as goal
 use Rattle.hybrid_laws.proofs.memory.Written.{each-entry}
 use Rattle.hybrid_model.specs.Tallies.{Each}
 use Rattle.lwk_node.specs.Shown.{node_of, shown_process}
@@ -6,7 +7,6 @@ use Rattle.mck_word.specs.EachLaws.{at-each}
 use Rattle.mck_word.specs.Maps.{at, each}
 use Rattle.mck_word.specs.declared.Pid.{Pid}
 use Rattle.pair_node.proofs.SameKeys.{same-keys}
-use Rattle.pair_node.proofs.booting.numbers.Goals as goal
 use Rattle.std.proofs.Common.{List, Some, ap, append-nil, arith, length, map, subst, sym, ℕ, ◌++◌, ◌∙◌, ◌≡◌}
 use Rattle.std.specs.Prelude.{None, Option, [], is_some, option_map, refl, ◌∷◌}
 

@@ -1,3 +1,4 @@
+use Rattle.lwk_side.proofs.kernel.Lwk.take_ack.Goals as goal
 use Rattle.file_model.specs.Files.{root_only}
 use Rattle.hybrid_model.specs.Lwk.{change_made_of}
 use Rattle.hybrid_model.specs.Pairs.{Here, with_side}
@@ -7,7 +8,6 @@ use Rattle.kernel_model.specs.declared.Change.{Change}
 use Rattle.kernel_model.specs.declared.Does.{Does}
 use Rattle.lwk_node.specs.Shown.{node_of}
 use Rattle.lwk_side.proofs.Acked.{ack-is, no-change, over-is}
-use Rattle.lwk_side.proofs.kernel.Lwk.take_ack.Goals as goal
 use Rattle.lwk_side.specs.Shown.{here_of}
 use Rattle.offer_laws.proofs.ChangeFits.{wanted-fits}
 use Rattle.std.proofs.Common.{ap, sym, ◌∙◌}

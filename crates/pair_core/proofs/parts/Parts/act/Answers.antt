@@ -1,3 +1,4 @@
+use Rattle.pair_core.proofs.parts.Parts.act.Goals as goal
 use Rattle.hybrid_laws.proofs.act.Act.{may-act}
 use Rattle.hybrid_laws.proofs.maps.Tests.{both}
 use Rattle.hybrid_model.specs.Events.{act_file, has_worker}
@@ -9,7 +10,6 @@ use Rattle.lwk_node.specs.Shown.{node_of}
 use Rattle.pair_core.proofs.Facts.{few-held, finds, kept-put}
 use Rattle.pair_core.proofs.Found.{after-is, has-row}
 use Rattle.pair_core.proofs.Linux.{held-served}
-use Rattle.pair_core.proofs.parts.Parts.act.Goals as goal
 use Rattle.pair_core.specs.Shown.{here_in}
 use Rattle.std.proofs.Common.{refl}
 

@@ -1,3 +1,4 @@
+use Rattle.pair_core.proofs.parts.Parts.assign.Goals as goal
 use Rattle.hybrid_laws.proofs.assign.Assign.{may-assign}
 use Rattle.hybrid_laws.proofs.maps.Tests.{both}
 use Rattle.hybrid_model.specs.Events.{has_worker, with_linux}
@@ -7,7 +8,6 @@ use Rattle.hybrid_model.specs.declared.events.Event.TheVariants.{Assign}
 use Rattle.pair_core.proofs.Facts.{finds, kept-put, worker-small}
 use Rattle.pair_core.proofs.Found.{after-is, has-row}
 use Rattle.pair_core.proofs.Linux.{waiting-served}
-use Rattle.pair_core.proofs.parts.Parts.assign.Goals as goal
 use Rattle.pair_core.specs.Shown.{here_in}
 use Rattle.std.proofs.Common.{refl}
 

@@ -1,3 +1,4 @@
+use Rattle.pair_core.proofs.parts.Parts.finish.Goals as goal
 use Rattle.hybrid_laws.proofs.maps.Tests.{both}
 use Rattle.hybrid_model.specs.Events.{finish_here, has_worker}
 use Rattle.hybrid_model.specs.Linux.{may_finish}
@@ -5,7 +6,6 @@ use Rattle.hybrid_model.specs.Pairs.{Here, with_side}
 use Rattle.hybrid_model.specs.declared.events.Event.TheVariants.{Finish}
 use Rattle.pair_core.proofs.Facts.{finds, has-place, kept-put}
 use Rattle.pair_core.proofs.Found.{after-is, has-row}
-use Rattle.pair_core.proofs.parts.Parts.finish.Goals as goal
 use Rattle.pair_core.specs.Shown.{here_in}
 use Rattle.std.proofs.Common.{ap, refl, ◌∙◌}
 use Rattle.std.specs.Prelude.{[], ◌++◌, ◌∷◌}

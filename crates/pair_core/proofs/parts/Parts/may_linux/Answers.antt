@@ -1,8 +1,8 @@
+use Rattle.pair_core.proofs.parts.Parts.may_linux.Goals as goal
 use Rattle.hybrid_laws.specs.EventKinds.{is_of_linux}
 use Rattle.hybrid_model.specs.Events.{may, may_here}
 use Rattle.mck_word.specs.Maps.{at}
 use Rattle.pair_core.proofs.MayLinux.{may-nowhere, may-where, no-some, none-linux}
-use Rattle.pair_core.proofs.parts.Parts.may_linux.Goals as goal
 use Rattle.pair_core.specs.LinuxRoom.{linux_process}
 use Rattle.pair_core.specs.Shown.{here_in, pair_of}
 use Rattle.std.proofs.Common.{ap, sym, ◌∙◌}

@@ -1,3 +1,4 @@
+use Rattle.pair_core.proofs.parts.Parts.miss.Goals as goal
 use Rattle.hybrid_laws.proofs.miss.Miss.{may-miss}
 use Rattle.hybrid_model.specs.Events.{miss}
 use Rattle.hybrid_model.specs.Pairs.{Here, with_side}
@@ -6,7 +7,6 @@ use Rattle.lwk_node.specs.Shown.{node_of}
 use Rattle.pair_core.proofs.Facts.{finds, has-place, kept-put}
 use Rattle.pair_core.proofs.Found.{after-is, has-row}
 use Rattle.pair_core.proofs.Linux.{held-holds}
-use Rattle.pair_core.proofs.parts.Parts.miss.Goals as goal
 use Rattle.pair_core.specs.Shown.{here_in}
 use Rattle.std.proofs.Common.{ap, refl, ◌∙◌}
 use Rattle.std.specs.Prelude.{[], ◌++◌, ◌∷◌}

@@ -1,3 +1,4 @@
+use Rattle.pair_core.proofs.parts.Parts.park.Goals as goal
 use Rattle.hybrid_laws.proofs.park.Park.{may-park}
 use Rattle.hybrid_model.specs.Events.{park_here}
 use Rattle.hybrid_model.specs.Pairs.{Here}
@@ -7,7 +8,6 @@ use Rattle.lwk_node.specs.Shown.{node_of}
 use Rattle.pair_core.proofs.Facts.{finds, kept-put}
 use Rattle.pair_core.proofs.Found.{after-is, has-row}
 use Rattle.pair_core.proofs.Linux.{held-holds}
-use Rattle.pair_core.proofs.parts.Parts.park.Goals as goal
 use Rattle.pair_core.specs.Shown.{here_in}
 use Rattle.std.proofs.Common.{refl}
 

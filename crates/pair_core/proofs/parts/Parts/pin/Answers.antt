@@ -1,9 +1,9 @@
+use Rattle.pair_core.proofs.parts.Parts.pin.Goals as goal
 use Rattle.hybrid_laws.proofs.pin.Pin.{may-pin}
 use Rattle.hybrid_model.specs.Pairs.{Here, with_side}
 use Rattle.hybrid_model.specs.declared.events.Event.TheVariants.{Pin}
 use Rattle.pair_core.proofs.Facts.{finds, kept-put, worker-small}
 use Rattle.pair_core.proofs.Found.{after-is, has-row}
-use Rattle.pair_core.proofs.parts.Parts.pin.Goals as goal
 use Rattle.pair_core.specs.Shown.{here_in}
 use Rattle.std.proofs.Common.{ap, refl}
 use Rattle.std.specs.Prelude.{is_some}

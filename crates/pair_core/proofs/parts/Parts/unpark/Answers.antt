@@ -1,3 +1,4 @@
+use Rattle.pair_core.proofs.parts.Parts.unpark.Goals as goal
 use Rattle.hybrid_laws.proofs.maps.Tests.{both}
 use Rattle.hybrid_model.specs.Events.{unpark_here}
 use Rattle.hybrid_model.specs.Linux.{is_parked}
@@ -7,7 +8,6 @@ use Rattle.hybrid_model.specs.declared.events.Event.TheVariants.{Unpark}
 use Rattle.lwk_node.specs.Shown.{node_of}
 use Rattle.pair_core.proofs.Facts.{finds, kept-put}
 use Rattle.pair_core.proofs.Found.{after-is, has-row}
-use Rattle.pair_core.proofs.parts.Parts.unpark.Goals as goal
 use Rattle.pair_core.specs.Shown.{here_in}
 use Rattle.std.proofs.Common.{refl}
 

@@ -1,3 +1,4 @@
+use Rattle.pair_core.proofs.parts.Parts.unpin.Goals as goal
 use Rattle.hybrid_laws.proofs.maps.Tests.{both}
 use Rattle.hybrid_model.specs.Events.{has_worker}
 use Rattle.hybrid_model.specs.Linux.{has_pin, may_unpin}
@@ -5,7 +6,6 @@ use Rattle.hybrid_model.specs.Pairs.{Here, with_side}
 use Rattle.hybrid_model.specs.declared.events.Event.TheVariants.{Unpin}
 use Rattle.pair_core.proofs.Facts.{finds, kept-put}
 use Rattle.pair_core.proofs.Found.{after-is, has-row}
-use Rattle.pair_core.proofs.parts.Parts.unpin.Goals as goal
 use Rattle.pair_core.specs.Shown.{here_in}
 use Rattle.std.proofs.Common.{refl}
 
