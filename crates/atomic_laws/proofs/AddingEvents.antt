@@ -13,7 +13,7 @@ use Rattle.hybrid_model.specs.Events.{after, may}
 use Rattle.hybrid_model.specs.Globals.{Coherent}
 use Rattle.hybrid_model.specs.Images.{image}
 use Rattle.hybrid_model.specs.Journals.{IsLegal, images, may_all, state}
-use Rattle.hybrid_model.specs.Lwk.{memory_here}
+use Rattle.hybrid_model.specs.OneProcess.{memory_here}
 use Rattle.hybrid_model.specs.Pairs.{Pair, here}
 use Rattle.hybrid_model.specs.Shown.{one, shown_own}
 use Rattle.hybrid_model.specs.Sides.{Side, new_side}

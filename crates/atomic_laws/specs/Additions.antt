@@ -1,6 +1,6 @@
 -- Additions to a doubleword: what an instruction writes, what the steps of a run add to a doubleword of a process, and that they do nothing else to it.
 -- Source: this project's own, over the instructions of the RISC-V Unprivileged ISA.
-use Rattle.hybrid_model.specs.Lwk.{memory_here}
+use Rattle.hybrid_model.specs.OneProcess.{memory_here}
 use Rattle.hybrid_model.specs.Pairs.{Pair, here}
 use Rattle.isa_model.specs.Arith.{add_of, store_size}
 use Rattle.isa_model.specs.Atomics.{AmIns, am_decoded, am_size, is_atomic}

@@ -3,7 +3,7 @@ use Rattle.hybrid_laws.specs.Lasting.{Lasting}
 use Rattle.hybrid_model.specs.Claims.{AtEach, Holds, Runs, replies}
 use Rattle.hybrid_model.specs.Globals.{Coherent}
 use Rattle.hybrid_model.specs.Journals.{images, state}
-use Rattle.hybrid_model.specs.Linux.{holds}
+use Rattle.hybrid_model.specs.Workers.{holds}
 use Rattle.hybrid_model.specs.Pairs.{Pair, side_of}
 use Rattle.hybrid_model.specs.Shown.{one}
 use Rattle.hybrid_model.specs.Sides.{Side}

@@ -1,6 +1,6 @@
 -- What holds of each state of a journal beside coherence: there is a worker, and until its request has ended the Interrupt of a marked call is in a ring or was fetched.
 use Rattle.hybrid_model.specs.Coherence.{interrupts_of}
-use Rattle.hybrid_model.specs.Linux.{is_ended_or_replied}
+use Rattle.hybrid_model.specs.Workers.{is_ended_or_replied}
 use Rattle.hybrid_model.specs.Pairs.{Pair, side_of}
 use Rattle.hybrid_model.specs.Sides.{Caller, Side, service_of, state_of}
 use Rattle.hybrid_model.specs.Tallies.{as_number, sum_rings}

@@ -5,7 +5,7 @@ use Rattle.hybrid_model.specs.Events.{after}
 use Rattle.hybrid_model.specs.Globals.{Coherent, copies, table_of}
 use Rattle.hybrid_model.specs.Images.{image}
 use Rattle.hybrid_model.specs.Journals.{IsOver, images, state}
-use Rattle.hybrid_model.specs.Lwk.{memory_here, view_here}
+use Rattle.hybrid_model.specs.OneProcess.{memory_here, view_here}
 use Rattle.hybrid_model.specs.Pairs.{Pair, here, side_of}
 use Rattle.hybrid_model.specs.Shown.{one}
 use Rattle.hybrid_model.specs.Sides.{Row, Side, pin_of, served, serves, state_of}

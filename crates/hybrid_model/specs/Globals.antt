@@ -4,7 +4,7 @@ use Rattle.hybrid_model.specs.Coherence.{OfProcess}
 use Rattle.hybrid_model.specs.Pairs.{Pair, side_of}
 use Rattle.hybrid_model.specs.Rings.{all_empty}
 use Rattle.file_model.specs.Files.{description_of}
-use Rattle.hybrid_model.specs.Linux.{pipe_end}
+use Rattle.hybrid_model.specs.Turns.{pipe_end}
 use Rattle.hybrid_model.specs.Shown.{status_of}
 use Rattle.hybrid_model.specs.Sides.{Side, Row, Turn, Caller, state_of, service_of}
 use Rattle.hybrid_model.specs.Tallies.{Reads, tally, if_same, counted}

@@ -1,6 +1,6 @@
 -- The one-kernel state that the two kernels show: read without proxies, mirrors and rounds.
 -- Source: this project's own, after the idea of IHK/McKernel.
-use Rattle.hybrid_model.specs.Linux.{first_progress}
+use Rattle.hybrid_model.specs.Fetch.{first_progress}
 use Rattle.hybrid_model.specs.Pairs.{Pair, Here}
 use Rattle.hybrid_model.specs.Sides.{Side, Caller, Service, call_in, no_service, state_in}
 use Rattle.hybrid_model.specs.Spaces.{shown_memory}

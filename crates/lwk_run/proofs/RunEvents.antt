@@ -1,5 +1,6 @@
 -- The event Run of a thread, from what stood in the frames to what stands there after it.
-use Rattle.hybrid_model.specs.Lwk.{executed_in_run, length_of_run, memory_here, ran, ran_last, run, run_for}
+use Rattle.hybrid_model.specs.OneProcess.{memory_here, ran_last}
+use Rattle.hybrid_model.specs.Run.{executed_in_run, length_of_run, ran, run, run_for}
 use Rattle.hybrid_model.specs.Pairs.{Here}
 use Rattle.hybrid_model.specs.Spaces.{shown_memory, written_back}
 use Rattle.isa_model.specs.Instr.{Outcome}

@@ -1,5 +1,5 @@
 -- The node's run of a thread, one instruction after another, is the run of its registers and memory.
-use Rattle.hybrid_model.specs.Lwk.{length_of_run, run_for}
+use Rattle.hybrid_model.specs.Run.{length_of_run, run_for}
 use Rattle.isa_model.specs.Instr.{Outcome, instr, outcome}
 use Rattle.isa_model.specs.Memory.{Memory}
 use Rattle.isa_model.specs.declared.stops.Stop.{Stop}

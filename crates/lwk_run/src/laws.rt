@@ -1,5 +1,6 @@
 // Laws of runs.
-ghost use Rattle.hybrid_model.specs.Lwk.{executed_in_run, length_of_run, ran_last, run, run_for};
+ghost use Rattle.hybrid_model.specs.OneProcess.{ran_last};
+ghost use Rattle.hybrid_model.specs.Run.{executed_in_run, length_of_run, run, run_for};
 ghost use Rattle.hybrid_model.specs.Pairs.{Here};
 ghost use Rattle.isa_model.specs.Instr.{Outcome};
 ghost use Rattle.isa_model.specs.Memory.{Memory};

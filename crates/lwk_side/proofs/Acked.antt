@@ -1,5 +1,5 @@
 -- A round that is over, and what its thread then does.
-use Rattle.hybrid_model.specs.Lwk.{change_made_of, changing_thread, round_over, take_ack}
+use Rattle.hybrid_model.specs.Intake.{change_made_of, changing_thread, round_over, take_ack}
 use Rattle.hybrid_model.specs.Pairs.{Here, with_side}
 use Rattle.hybrid_model.specs.Rings.{rest_of}
 use Rattle.hybrid_model.specs.Sides.{Row, Round}

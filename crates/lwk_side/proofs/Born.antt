@@ -8,7 +8,8 @@ use Rattle.hybrid_laws.proofs.memory.NewSide.{no-at}
 use Rattle.hybrid_laws.proofs.reap.Reap.{count-each, each-none}
 use Rattle.hybrid_laws.proofs.maps.Tests.{both}
 use Rattle.hybrid_model.specs.Globals.{Rising}
-use Rattle.hybrid_model.specs.Lwk.{after_trap, child_space, memory_here, ran_last, space_here, trapped, view_here, with_child, with_stores, with_view}
+use Rattle.hybrid_model.specs.OneProcess.{memory_here, ran_last, space_here, view_here, with_view}
+use Rattle.hybrid_model.specs.Trap.{after_trap, child_space, trapped, with_child, with_stores}
 use Rattle.hybrid_model.specs.Pairs.{Here, with_node}
 use Rattle.hybrid_model.specs.Sides.{Row}
 use Rattle.hybrid_model.specs.Spaces.{Space, copied_pages, shown_memory, shown_row, written_back}

@@ -1,5 +1,5 @@
 -- The row of a call by its number.
-use Rattle.hybrid_model.specs.Lwk.{caller_of}
+use Rattle.hybrid_model.specs.Intake.{caller_of}
 use Rattle.lwk_side.specs.Shown.{shown_caller}
 use Rattle.lwk_side.specs.declared.task.Caller.{Caller}
 use Rattle.hybrid_laws.proofs.maps.Lookups.{found-some}

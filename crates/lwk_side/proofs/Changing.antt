@@ -1,5 +1,6 @@
 -- A memory call of a thread behind its ecall.
-use Rattle.hybrid_model.specs.Lwk.{trapped, view_here}
+use Rattle.hybrid_model.specs.OneProcess.{view_here}
+use Rattle.hybrid_model.specs.Trap.{trapped}
 use Rattle.hybrid_model.specs.Pairs.{Here, with_node}
 use Rattle.isa_model.specs.Memory.{Memory}
 use Rattle.isa_model.specs.Registers.{reg}

@@ -1,5 +1,5 @@
 -- An interrupt of a thread that calls, and of one that does not.
-use Rattle.hybrid_model.specs.Lwk.{caller_at, interrupt, interrupt_as, is_calling, no_caller, post_interrupt}
+use Rattle.hybrid_model.specs.Interrupt.{caller_at, interrupt, interrupt_as, is_calling, no_caller, post_interrupt}
 use Rattle.hybrid_model.specs.Pairs.{Here, with_node}
 use Rattle.hybrid_model.specs.Sides.{Caller}
 use Rattle.kernel_model.specs.Traps.{called_back}

@@ -1,5 +1,6 @@
 -- Traps by their stops and plans.
-use Rattle.hybrid_model.specs.Lwk.{after_trap, ran_last, trapped, view_here}
+use Rattle.hybrid_model.specs.OneProcess.{ran_last, view_here}
+use Rattle.hybrid_model.specs.Trap.{after_trap, trapped}
 use Rattle.hybrid_model.specs.Pairs.{Here}
 use Rattle.kernel_model.specs.Nodes.{stop_in, thread_of}
 use Rattle.kernel_model.specs.Calls.{local_call, one_of_calls}

@@ -1,5 +1,5 @@
 -- A step on a view is the event's step on its process.
-use Rattle.hybrid_model.specs.Lwk.{view_here, with_view}
+use Rattle.hybrid_model.specs.OneProcess.{view_here, with_view}
 use Rattle.hybrid_model.specs.Sides.{Row}
 use Rattle.ikc_channel.specs.declared.Channel.{Channel}
 use Rattle.kernel_model.specs.Signals.{View}

@@ -13,10 +13,10 @@ ghost use Rattle.offer_laws.specs.ChangeFits.{ChangeFits, DecisionFits, NodeFits
 ghost use Rattle.std.specs.Prelude.{◌≡◌, OnOk, length};
 ghost use Rattle.vm_calls.specs.Facts.{decision};
 
-use crate::acks::changing_thread;
+use crate::intake_ack::changing_thread;
 use crate::kernel::Lwk;
-use crate::local_calls::{arguments_of, call_number};
 use crate::task::Task;
+use crate::trap_local::{arguments_of, call_number};
 use call_plan::{Plan, plan};
 use isa_model::Stop;
 use kernel_model::{Change, Does};

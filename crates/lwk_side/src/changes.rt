@@ -1,6 +1,6 @@
 // Changes of a process's memory.
 ghost use Rattle.file_model.specs.Files.{Files};
-ghost use Rattle.hybrid_model.specs.Lwk.{effect_made};
+ghost use Rattle.hybrid_model.specs.OneProcess.{effect_made};
 ghost use Rattle.ikc_channel.specs.declared.Channel.{Channel as channels};
 ghost use Rattle.kernel_model.specs.MemoryCalls.{answer_of_change, effect_of};
 ghost use Rattle.kernel_model.specs.Nodes.{Process, process_of};

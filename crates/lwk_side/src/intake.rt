@@ -1,5 +1,5 @@
 // Messages that the lightweight kernel takes from its ring.
-ghost use Rattle.hybrid_model.specs.Lwk.{intake};
+ghost use Rattle.hybrid_model.specs.Intake.{intake};
 ghost use Rattle.lwk_side.specs.Acks.{FindsAck, IfAck};
 ghost use Rattle.lwk_side.specs.Heads.{is_first_taken};
 ghost use Rattle.lwk_side.specs.Sound.{KeepsFrames, KeepsRings};

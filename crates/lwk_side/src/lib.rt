@@ -1,32 +1,33 @@
 //! The lightweight kernel's events, on one process with what all share.
 //!
-//! Promises: each event is the word of the same name in hybrid_model's specs/Lwk, on the state that the kernel, what it keeps of the
+//! Promises: each event has a file of its name and is what hybrid_model's file of that name says, on the state that the kernel, what it keeps of the
 //! process and the channel show (specs/Shown, `here_of`), whatever the parts are that it isn't handed. What takes memory has its room made before.
 #![tactic(auto)]
 
-mod acks;
-mod answers;
-mod begun;
+mod answer;
+mod begin_vm;
 mod change_room;
 mod changes;
-mod clones;
-mod delivers;
-mod forks;
+mod deliver;
 mod intake;
-mod interrupts;
+mod intake_ack;
+mod intake_fault;
+mod intake_reply;
+mod interrupt;
 mod kernel;
-mod local_calls;
-mod memory_calls;
-mod reaps;
-mod replies;
-mod rounds;
-mod runs;
+mod reap;
+mod run;
 mod script;
 mod task;
-mod traps;
-mod waits;
+mod trap;
+mod trap_clone;
+mod trap_delegated;
+mod trap_fork;
+mod trap_local;
+mod trap_memory;
+mod wait;
 
-pub use answers::{answer_to, may_answer};
+pub use answer::{answer_to, may_answer};
+pub use intake_reply::caller_of;
 pub use kernel::{Last, Lwk};
-pub use replies::caller_of;
 pub use task::{Caller, Noted, Task};

@@ -2,7 +2,7 @@
 use Rattle.hybrid_laws.specs.Lasting.{Lasting}
 use Rattle.hybrid_model.specs.Events.{process_of_event}
 use Rattle.hybrid_model.specs.Globals.{Coherent}
-use Rattle.hybrid_model.specs.Lwk.{executed_in_run}
+use Rattle.hybrid_model.specs.Run.{executed_in_run}
 use Rattle.hybrid_model.specs.Pairs.{Pair, here}
 use Rattle.hybrid_model.specs.Shown.{one}
 use Rattle.hybrid_model.specs.declared.events.Event.TheVariants.{Run}

@@ -4,8 +4,8 @@ use Rattle.hybrid_laws.proofs.states.Pair.{has-side, there-has}
 use Rattle.hybrid_model.specs.Events.{may, may_here, process_of_event}
 use Rattle.hybrid_model.specs.Globals.{Coherent}
 use Rattle.hybrid_model.specs.Journals.{IsOver, candidates, events_of_process, events_of_thread, events_of_worker, is_at_end}
-use Rattle.hybrid_model.specs.Linux.{is_parked}
-use Rattle.hybrid_model.specs.Lwk.{is_calling, may_interrupt}
+use Rattle.hybrid_model.specs.Workers.{is_parked}
+use Rattle.hybrid_model.specs.Interrupt.{is_calling, may_interrupt}
 use Rattle.hybrid_model.specs.Pairs.{Pair, here, side_of}
 use Rattle.hybrid_model.specs.Rings.{ring}
 use Rattle.hybrid_model.specs.Sides.{state_in, state_of}

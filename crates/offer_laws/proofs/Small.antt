@@ -9,7 +9,8 @@ use Rattle.hybrid_model.specs.Boot.{boot}
 use Rattle.hybrid_model.specs.Events.{after, after_here, may, may_here, process_of_event}
 use Rattle.hybrid_model.specs.Globals.{Coherent}
 use Rattle.hybrid_model.specs.Journals.{may_all, state}
-use Rattle.hybrid_model.specs.Lwk.{after_trap, trapped, view_here}
+use Rattle.hybrid_model.specs.OneProcess.{view_here}
+use Rattle.hybrid_model.specs.Trap.{after_trap, trapped}
 use Rattle.hybrid_model.specs.Pairs.{Here, Pair, here, with_born}
 use Rattle.hybrid_model.specs.Sides.{Side, new_side}
 use Rattle.hybrid_model.specs.declared.events.Event.{Event}

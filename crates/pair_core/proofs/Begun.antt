@@ -3,7 +3,8 @@ use Rattle.file_model.specs.Files.{Files}
 use Rattle.lwk_node.specs.Shown.{node_of}
 use Rattle.lwk_node.specs.declared.tables.Node.{Node}
 use Rattle.hybrid_laws.proofs.maps.Tests.{both}
-use Rattle.hybrid_model.specs.Lwk.{after_trap, begin_call, trapped, view_here}
+use Rattle.hybrid_model.specs.OneProcess.{view_here}
+use Rattle.hybrid_model.specs.Trap.{after_trap, begin_call, trapped}
 use Rattle.hybrid_model.specs.Pairs.{Here, ring_of}
 use Rattle.hybrid_model.specs.Rings.{ring}
 use Rattle.isa_model.specs.Registers.{reg}

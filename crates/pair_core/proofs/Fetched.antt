@@ -5,7 +5,7 @@ use Rattle.hybrid_laws.proofs.fetch.Answer.{answered-for}
 use Rattle.hybrid_laws.proofs.fetch.Interrupt.{fetched-first}
 use Rattle.hybrid_laws.proofs.maps.Reading.{first-of}
 use Rattle.hybrid_model.specs.Coherence.{ClearIsOf, OfProcess, RequestIs, is_fetched, is_posted, is_posted_phase, posted, state_at}
-use Rattle.hybrid_model.specs.Linux.{is_ended_or_replied}
+use Rattle.hybrid_model.specs.Workers.{is_ended_or_replied}
 use Rattle.hybrid_model.specs.Rings.{head_of, ring}
 use Rattle.hybrid_model.specs.Sides.{Round, Row, Side, serves, state_in, state_of}
 use Rattle.ikc_ring.specs.declared.Msg.{Msg}

@@ -4,7 +4,7 @@ use Rattle.guest_laws.specs.RingRoom.{FindsRoom}
 use Rattle.hybrid_model.specs.Events.{after, after_here, of_line, process_of_event}
 use Rattle.hybrid_model.specs.Globals.{Coherent, copies, table_of}
 use Rattle.hybrid_laws.proofs.maps.Tests.{both}
-use Rattle.hybrid_model.specs.Lwk.{left_of_limit, may_run_for}
+use Rattle.hybrid_model.specs.Run.{left_of_limit, may_run_for}
 use Rattle.hybrid_model.specs.Pairs.{Here, Pair, here, put_here, side_of, with_born}
 use Rattle.hybrid_model.specs.Rings.{post, ring}
 use Rattle.hybrid_model.specs.Sides.{Row, Side as SideOf, new_side}

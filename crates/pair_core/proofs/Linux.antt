@@ -3,7 +3,7 @@ use Rattle.hybrid_laws.proofs.assign.Assign.{waiting-first}
 use Rattle.hybrid_laws.proofs.requests.Serving.{Serves}
 use Rattle.hybrid_laws.proofs.maps.Tests.{not-empty}
 use Rattle.hybrid_model.specs.Coherence.{OfProcess, is_fetched, state_at}
-use Rattle.hybrid_model.specs.Linux.{holds}
+use Rattle.hybrid_model.specs.Workers.{holds}
 use Rattle.hybrid_model.specs.Sides.{Book, LinuxSide, Side, serves, state_in}
 use Rattle.hybrid_model.specs.Spaces.{first_number}
 use Rattle.hybrid_model.specs.Tallies.{if_same, tally}

@@ -5,7 +5,7 @@ use Rattle.clear_rounds.specs.declared.Phase.{Phase}
 use Rattle.file_model.specs.Files.{Files}
 use Rattle.hybrid_model.specs.Coherence.{OfProcess, acked, acks}
 use Rattle.hybrid_model.specs.Globals.{HeapsHold, ring_number}
-use Rattle.hybrid_model.specs.Lwk.{intake, take_ack}
+use Rattle.hybrid_model.specs.Intake.{intake, take_ack}
 use Rattle.hybrid_model.specs.Pairs.{Here, Pair}
 use Rattle.hybrid_model.specs.Rings.{head_of, rest_of}
 use Rattle.hybrid_model.specs.Sides.{Round, Row, Side as SideOf}

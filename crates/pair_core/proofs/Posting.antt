@@ -2,8 +2,11 @@
 use Rattle.file_model.specs.Files.{Files}
 use Rattle.guest_laws.specs.RingRoom.{FindsRoom}
 use Rattle.hybrid_laws.proofs.maps.Tests.{both, none-is}
-use Rattle.hybrid_model.specs.Events.{after_here, has_worker, process_of_event}
-use Rattle.hybrid_model.specs.Lwk.{answer_to, begin_round, begin_vm, begin_vm_of, caller_at, give_answer, interrupt, interrupt_as, is_calling, may_answer, may_begin_vm, noted_may_be_answered, noted_of, post_answer, post_interrupt, thread_served}
+use Rattle.hybrid_model.specs.Events.{after_here, process_of_event}
+use Rattle.hybrid_model.specs.Workers.{has_worker}
+use Rattle.hybrid_model.specs.Answer.{answer_to, give_answer, may_answer, noted_may_be_answered, noted_of, post_answer, thread_served}
+use Rattle.hybrid_model.specs.BeginVm.{begin_round, begin_vm, begin_vm_of, may_begin_vm}
+use Rattle.hybrid_model.specs.Interrupt.{caller_at, interrupt, interrupt_as, is_calling, post_interrupt}
 use Rattle.hybrid_model.specs.Pairs.{Here, ring_of, with_side}
 use Rattle.hybrid_model.specs.Rings.{ring}
 use Rattle.hybrid_model.specs.Sides.{Noted, Round, Row}

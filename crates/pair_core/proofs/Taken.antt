@@ -1,7 +1,7 @@
 -- What an event of the lightweight kernel finds at the head of the ring back.
 use Rattle.hybrid_model.specs.Coherence.{FaultIsFor, OfProcess}
 use Rattle.hybrid_model.specs.Globals.{ring_number}
-use Rattle.hybrid_model.specs.Lwk.{intake, take_fault, take_reply}
+use Rattle.hybrid_model.specs.Intake.{intake, take_fault, take_reply}
 use Rattle.hybrid_model.specs.Pairs.{Here, Pair}
 use Rattle.hybrid_model.specs.Rings.{head_of, rest_of}
 use Rattle.hybrid_model.specs.Sides.{Side}

@@ -4,29 +4,39 @@
 //! state that the two kernels reach (specs/Ready). What takes memory has its room made before.
 #![tactic(auto)]
 
+mod ack_clear;
+mod act;
+mod answer;
+mod assign;
+mod begin_vm;
 mod boot_error;
 mod boot_files;
 mod boot_guests;
 mod boot_script;
 mod booting;
-mod delivers;
+mod copy;
+mod deliver;
+mod fetch;
+mod finish;
+mod fork;
 mod fork_room;
-mod forks;
-mod kernel_events;
+mod intake;
+mod interrupt;
 mod kernel_may;
 mod kernel_room;
 mod linux_may;
 mod linux_room;
-mod messages;
-mod parks;
+mod miss;
+mod park;
 mod parts;
-mod pieces;
-mod pins;
-mod requests;
-mod rounds;
-mod trap_or_fork;
-mod traps;
-mod waits;
+mod pin;
+mod reap;
+mod run;
+mod script;
+mod trap;
+mod unpark;
+mod unpin;
+mod wait;
 
 pub use boot_error::BootError;
 pub use parts::{Parts, Side};

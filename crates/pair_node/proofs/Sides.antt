@@ -1,7 +1,8 @@
 -- What the side of a process answers, where it has a row and where it has none.
 use Rattle.file_model.specs.Files.{Files}
-use Rattle.hybrid_model.specs.Images.{thread_of_request}
-use Rattle.hybrid_model.specs.Lwk.{answer_to, is_calling, noted_of, thread_served}
+use Rattle.hybrid_model.specs.Unpark.{thread_of_request}
+use Rattle.hybrid_model.specs.Answer.{answer_to, noted_of, thread_served}
+use Rattle.hybrid_model.specs.Interrupt.{is_calling}
 use Rattle.hybrid_model.specs.Pairs.{side_of}
 use Rattle.hybrid_model.specs.Sides.{Row, Side as SideOf, call_in, looked_up, new_side, no_linux, no_service, served, serves}
 use Rattle.lwk_side.specs.Shown.{shown_caller}

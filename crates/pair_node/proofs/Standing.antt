@@ -1,6 +1,6 @@
 -- How a worker of a process stands, where the process has a row and where it has none.
 use Rattle.file_model.specs.Files.{Files}
-use Rattle.hybrid_model.specs.Linux.{has_pin, holds, is_held}
+use Rattle.hybrid_model.specs.Workers.{has_pin, holds, is_held}
 use Rattle.hybrid_model.specs.Pairs.{side_of}
 use Rattle.hybrid_model.specs.Sides.{Row, Side as SideOf, new_side, no_linux, serves, state_of}
 use Rattle.mck_word.specs.MapLaws.{at-none}

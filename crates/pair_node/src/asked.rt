@@ -1,6 +1,6 @@
 // What a run asks of the parts.
 ghost use Rattle.hybrid_model.specs.Journals.{runs_on};
-ghost use Rattle.hybrid_model.specs.Linux.{has_pin, holds};
+ghost use Rattle.hybrid_model.specs.Workers.{has_pin, holds};
 ghost use Rattle.hybrid_model.specs.Pairs.{side_of};
 ghost use Rattle.kernel_model.specs.Nodes.{Process as KernelProcess, ScriptLine as KernelLine, has_ended, is_living, ready_to_run};
 ghost use Rattle.key_rows.specs.Table.{key_from};

@@ -1,7 +1,13 @@
 // The step of the one-kernel machine that an event stands for.
 ghost use Rattle.hybrid_model.specs.Events.{of_thread};
-ghost use Rattle.hybrid_model.specs.Images.{image, image_of_answer, image_of_intake, image_of_interrupt, image_of_park, thread_of_request};
-ghost use Rattle.hybrid_model.specs.Lwk.{answer_to, is_calling, thread_served};
+ghost use Rattle.hybrid_model.specs.Answer.{image_of_answer};
+ghost use Rattle.hybrid_model.specs.Images.{image};
+ghost use Rattle.hybrid_model.specs.Intake.{image_of_intake};
+ghost use Rattle.hybrid_model.specs.Interrupt.{image_of_interrupt};
+ghost use Rattle.hybrid_model.specs.Park.{image_of_park};
+ghost use Rattle.hybrid_model.specs.Unpark.{thread_of_request};
+ghost use Rattle.hybrid_model.specs.Answer.{answer_to, thread_served};
+ghost use Rattle.hybrid_model.specs.Interrupt.{is_calling};
 ghost use Rattle.hybrid_model.specs.Pairs.{side_of};
 ghost use Rattle.hybrid_model.specs.Sides.{call_of, served};
 ghost use Rattle.lwk_side.specs.Wired.{CallersFit};

@@ -1,6 +1,13 @@
 -- The events of a worker that are left by how it stands offer what all of them offer.
 use Rattle.hybrid_model.specs.Events.{may}
-use Rattle.hybrid_model.specs.Linux.{has_pin, holds, is_copied, is_ended_request, is_free_to_act, is_held, is_uncopied, kind_for, may_act, may_copy, may_finish, may_miss, may_park, may_pin, may_unpin, row_for}
+use Rattle.hybrid_model.specs.Act.{may_act}
+use Rattle.hybrid_model.specs.Copy.{is_uncopied, may_copy}
+use Rattle.hybrid_model.specs.Finish.{may_finish}
+use Rattle.hybrid_model.specs.Miss.{may_miss}
+use Rattle.hybrid_model.specs.Park.{may_park}
+use Rattle.hybrid_model.specs.Pin.{may_pin}
+use Rattle.hybrid_model.specs.Unpin.{is_copied, may_unpin}
+use Rattle.hybrid_model.specs.Workers.{has_pin, holds, is_ended_request, is_free_to_act, is_held, kind_for, row_for}
 use Rattle.hybrid_model.specs.Pairs.{Pair, side_of}
 use Rattle.hybrid_model.specs.Sides.{Side, serves, state_of}
 use Rattle.hybrid_model.specs.declared.events.Event.{Event}

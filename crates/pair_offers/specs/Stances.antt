@@ -1,5 +1,5 @@
 -- How a worker stands, and which of its events are left by that.
-use Rattle.hybrid_model.specs.Linux.{has_pin, holds}
+use Rattle.hybrid_model.specs.Workers.{has_pin, holds}
 use Rattle.hybrid_model.specs.Sides.{Side}
 use Rattle.hybrid_model.specs.declared.events.Event.{Event}
 use Rattle.hybrid_model.specs.declared.events.Event.TheVariants.{Act, Copy, Finish, Miss, Park, Pin, Unpin}

@@ -2,7 +2,8 @@
 use Rattle.file_model.specs.Files.{Files}
 use Rattle.file_model.specs.declared.operations.Readiness.{Readiness}
 use Rattle.file_model.specs.declared.operations.Readiness.TheVariants.{Ready, NotReady, FileStep}
-use Rattle.hybrid_model.specs.Linux.{acted, is_free_to_act, kind_for, may_act, stepped, stepped_service}
+use Rattle.hybrid_model.specs.Act.{acted, may_act}
+use Rattle.hybrid_model.specs.Workers.{is_free_to_act, kind_for, stepped, stepped_service}
 use Rattle.hybrid_model.specs.Sides.{Book, Service, serves, served, service_of, state_in, state_of, stated, with_service, with_state}
 use Rattle.ikc_ring.specs.declared.Call.{Call}
 use Rattle.kernel_model.specs.Progress.{After, is_file_step, next_kind, take_file_step}

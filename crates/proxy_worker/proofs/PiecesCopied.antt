@@ -2,7 +2,8 @@
 use Rattle.file_model.specs.Files.{Files}
 use Rattle.file_model.specs.declared.operations.Readiness.{Readiness}
 use Rattle.file_model.specs.declared.operations.Readiness.TheVariants.{Ready, NotReady, FileStep}
-use Rattle.hybrid_model.specs.Linux.{copied, holds, is_uncopied, kind_for, may_copy, moved_by}
+use Rattle.hybrid_model.specs.Copy.{copied, is_uncopied, may_copy, moved_by}
+use Rattle.hybrid_model.specs.Workers.{holds, kind_for}
 use Rattle.hybrid_model.specs.Sides.{Book, Service, no_service, serves, served, service_of}
 use Rattle.kernel_model.specs.Progress.{is_ready, move_piece, next_kind, next_piece}
 use Rattle.mck_word.specs.Maps.{Map, at, put}
@@ -10,7 +11,7 @@ use Rattle.page_pins.specs.Pins.{with_copied}
 use Rattle.page_pins.specs.declared.Pin.{Pin}
 use Rattle.proxy_worker.proofs.Acts.{both, served-there, step-linux}
 use Rattle.proxy_worker.proofs.Parts.{service-absent}
-use Rattle.hybrid_model.specs.Linux.{stepped_service}
+use Rattle.hybrid_model.specs.Workers.{stepped_service}
 use Rattle.proxy_worker.specs.Shown.{linux_of, services_of, shown_service}
 use Rattle.proxy_worker.specs.declared.proxy.Proxy.{Proxy}
 use Rattle.proxy_worker.specs.declared.services.Service.{Service as ServiceOf}

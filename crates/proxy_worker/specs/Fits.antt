@@ -5,7 +5,7 @@ use Rattle.clear_rounds.specs.declared.Phase.TheVariants.{Posted as RoundPosted}
 use Rattle.file_calls.specs.Rooms.{Room}
 use Rattle.file_model.specs.Files.{Files}
 use Rattle.file_model.specs.declared.descriptions.Target.{Target}
-use Rattle.hybrid_model.specs.Linux.{is_ended_or_replied}
+use Rattle.hybrid_model.specs.Workers.{is_ended_or_replied}
 use Rattle.hybrid_model.specs.Sides.{Book, Round, Row, serves, state_of}
 use Rattle.ikc_ring.specs.declared.Msg.{Msg}
 use Rattle.ikc_ring.specs.declared.Msg.TheVariants.{Request, Clear, Answer, Interrupt, Reply, Ack, Fault}

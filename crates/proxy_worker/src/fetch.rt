@@ -1,14 +1,14 @@
 // The messages that a proxy takes from the rings.
-ghost use Rattle.std.specs.Prelude.{◌≡◌, ◌<◌, ◌-◌, ◌^◌, Option, false};
 ghost use Rattle.clear_rounds.specs.Round.{phase_of};
 ghost use Rattle.clear_rounds.specs.declared.Phase.{Phase as phase};
-ghost use Rattle.hybrid_model.specs.Linux as events;
-ghost use Rattle.hybrid_model.specs.Linux.{fetch_message, fetched_as, is_ended_or_replied};
-ghost use Rattle.hybrid_model.specs.Sides as sides;
+ghost use Rattle.hybrid_model.specs.Fetch.{fetch_answer, fetch_clear, fetch_empty, fetch_interrupt, fetch_message, fetch_request, fetch_row, fetched_as};
 ghost use Rattle.hybrid_model.specs.Sides.{state_of};
+ghost use Rattle.hybrid_model.specs.Sides as sides;
+ghost use Rattle.hybrid_model.specs.Workers.{is_ended_or_replied};
 ghost use Rattle.proxy_worker.specs.Fits.{AnswerFits, FetchFits, HasService};
 ghost use Rattle.proxy_worker.specs.Shown.{HasMirrorRoom, HasServiceRoom, linux_of};
 ghost use Rattle.request_book.specs.declared.ReqState.{ReqState as states};
+ghost use Rattle.std.specs.Prelude.{◌≡◌, ◌<◌, ◌-◌, ◌^◌, Option, false};
 
 use crate::proxy::Proxy;
 use crate::services::Service;
@@ -32,7 +32,7 @@ impl Proxy {
     fn fetch_request(&mut self, alloc: Global, call: &Call, book: &mut Book)
         requires posted { state_of book.old.requests call.now.q.0 ≡ states.Posted }
         requires room { HasServiceRoom self.old }
-        ensures { (round : Option sides.Round) → fetched_as (linux_of self.new) book.new.requests round ≡ events.fetch_request call.now (linux_of self.old) book.old.requests round }
+        ensures { (round : Option sides.Round) → fetched_as (linux_of self.new) book.new.requests round ≡ fetch_request call.now (linux_of self.old) book.old.requests round }
     {
         let progress = Progress::of_call(alloc, call.number, &call.args);
         self.services.put(
@@ -48,7 +48,7 @@ impl Proxy {
     }
 
     /// A row for a worker: it is installed, unless a later Clear has overtaken it, and the worker goes on.
-    #[tactic(auto, unfolding(hybrid_model::specs::Linux::fetch_row))]
+    #[tactic(auto, unfolding(hybrid_model::specs::Fetch::fetch_row))]
     fn fetch_row(
         &mut self,
         worker: u32,
@@ -59,7 +59,7 @@ impl Proxy {
     )
         requires faulted { state_of book.old.requests (sides.serves (linux_of self.old) worker) ≡ states.Faulted }
         requires room { HasMirrorRoom self.old }
-        ensures { (round : Option sides.Round) → fetched_as (linux_of self.new) book.new.requests round ≡ events.fetch_row worker page number row (linux_of self.old) book.old.requests round }
+        ensures { (round : Option sides.Round) → fetched_as (linux_of self.new) book.new.requests round ≡ fetch_row worker page number row (linux_of self.old) book.old.requests round }
     {
         book.answered(self.serves(worker));
         if number >= self.cleared {
@@ -68,11 +68,11 @@ impl Proxy {
     }
 
     /// Nothing for a worker: its call ends with the bytes moved, or with -EFAULT.
-    #[tactic(auto, unfolding(hybrid_model::specs::Linux::fetch_empty))]
+    #[tactic(auto, unfolding(hybrid_model::specs::Fetch::fetch_empty))]
     fn fetch_empty(&mut self, worker: u32, book: &mut Book)
         requires faulted { state_of book.old.requests (sides.serves (linux_of self.old) worker) ≡ states.Faulted }
         requires service { HasService self.old (sides.serves (linux_of self.old) worker) }
-        ensures { (round : Option sides.Round) → fetched_as (linux_of self.new) book.new.requests round ≡ events.fetch_empty worker (linux_of self.old) book.old.requests round }
+        ensures { (round : Option sides.Round) → fetched_as (linux_of self.new) book.new.requests round ≡ fetch_empty worker (linux_of self.old) book.old.requests round }
     {
         let q = self.serves(worker);
         book.ended(q);
@@ -81,11 +81,11 @@ impl Proxy {
     }
 
     /// A round closes the pages: their rows leave the mirror.
-    #[tactic(auto, unfolding(hybrid_model::specs::Linux::fetch_clear))]
+    #[tactic(auto, unfolding(hybrid_model::specs::Fetch::fetch_clear))]
     fn fetch_clear(&mut self, range: PageRange, round: &mut Round)
         requires posted { phase_of round.old ≡ Some phase.Posted }
         requires few { (linux_of self.old).cleared < 2 ^ 64 - 1 }
-        ensures { (book : sides.Book) → fetched_as (linux_of self.new) book round.new ≡ events.fetch_clear range (linux_of self.old) book round.old }
+        ensures { (book : sides.Book) → fetched_as (linux_of self.new) book round.new ≡ fetch_clear range (linux_of self.old) book round.old }
     {
         self.mirror.drop_range(range);
         self.cleared += 1;
@@ -93,10 +93,10 @@ impl Proxy {
     }
 
     /// The thread of a request has a signal, which counts until the request has ended.
-    #[tactic(auto, unfolding(hybrid_model::specs::Linux::fetch_interrupt))]
+    #[tactic(auto, unfolding(hybrid_model::specs::Fetch::fetch_interrupt))]
     fn fetch_interrupt(&mut self, q: Req, book: &Book)
         requires { is_ended_or_replied (state_of book.now.requests q.0) ≡ false → HasService self.old q.0 }
-        ensures { (round : Option sides.Round) → fetched_as (linux_of self.new) book.now.requests round ≡ events.fetch_interrupt q.0 (linux_of self.old) book.now.requests round }
+        ensures { (round : Option sides.Round) → fetched_as (linux_of self.new) book.now.requests round ≡ fetch_interrupt q.0 (linux_of self.old) book.now.requests round }
     {
         if !is_over(book.standing(q)) {
             self.set_interrupted(q);
@@ -113,7 +113,7 @@ impl Proxy {
         book: &mut Book,
     )
         requires { AnswerFits worker row self.old book.old.requests }
-        ensures { (round : Option sides.Round) → fetched_as (linux_of self.new) book.new.requests round ≡ events.fetch_answer worker page number row (linux_of self.old) book.old.requests round }
+        ensures { (round : Option sides.Round) → fetched_as (linux_of self.new) book.new.requests round ≡ fetch_answer worker page number row (linux_of self.old) book.old.requests round }
     {
         match row {
             Some(row) => return self.fetch_row(worker, page, number, row, book),

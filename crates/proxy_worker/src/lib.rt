@@ -1,22 +1,28 @@
 //! The Linux side of one process: its proxy, whose workers serve the delegated calls, and the turns at the ends of pipes.
 //!
-//! Promises: each event of the Linux side is a method of `Proxy` that leaves what the word of the same name in hybrid_model's
-//! specs/Linux says, over the side that the proxy shows (specs/Shown) and what the method is handed: the book of requests, the round,
+//! Promises: each event of the Linux side has a file of its name, whose method of `Proxy` leaves what hybrid_model's file of that
+//! name says, over the side that the proxy shows (specs/Shown) and what the method is handed: the book of requests, the round,
 //! the files, the turns, the bytes of a page. Each `may_` method is the test of that name. Only room calls, `reserve_..` and
 //! `make_room_for_..`, take memory; an event takes none and cannot fail. Proxies, workers and turns are this project's own.
 #![tactic(auto)]
 
-pub mod copies;
-pub mod fetch;
+mod ack_clear;
+mod act;
+mod assign;
+mod copy;
+mod fetch;
+mod finish;
 pub mod lookups;
-mod may;
-pub mod moves;
-pub mod parks;
+mod miss;
+mod park;
+mod pin;
 pub mod proxy;
-pub mod rooms;
 pub mod services;
-pub mod steps;
+mod standing;
+mod steps;
 pub mod turns;
+mod unpark;
+mod unpin;
 pub mod workers;
 
 pub use proxy::Proxy;

@@ -1,14 +1,15 @@
 // What a proxy answers of its workers and requests.
-ghost use Rattle.std.specs.Prelude.{◌≡◌, ◌↔◌, IsTrue, MatchOption, option_map};
-ghost use Rattle.std.specs.Option.{option_copied};
-ghost use Rattle.hybrid_model.specs.Linux as events;
-ghost use Rattle.hybrid_model.specs.Sides as sides;
 ghost use Rattle.hybrid_model.specs.Sides.{no_service, service_of};
-ghost use Rattle.kernel_model.specs.Progress as calls;
+ghost use Rattle.hybrid_model.specs.Sides as sides;
+ghost use Rattle.hybrid_model.specs.Turns.{end_of_target, pipe_end};
+ghost use Rattle.hybrid_model.specs.Workers.{kind_for, row_for};
 ghost use Rattle.kernel_model.specs.Progress.{needed_access};
+ghost use Rattle.kernel_model.specs.Progress as calls;
 ghost use Rattle.mck_word.specs.Maps.{at};
 ghost use Rattle.proxy_worker.specs.Fits.{HasService};
 ghost use Rattle.proxy_worker.specs.Shown.{linux_of, shown_service};
+ghost use Rattle.std.specs.Option.{option_copied};
+ghost use Rattle.std.specs.Prelude.{◌≡◌, ◌↔◌, IsTrue, MatchOption, option_map};
 
 use crate::proxy::Proxy;
 use crate::services::Service;
@@ -160,14 +161,14 @@ impl Proxy {
 
     /// Whether the next step of the worker's request can move a byte, has to wait, or is a file step.
     pub fn kind_for<S: FileStore>(&self, worker: u32, files: &S) -> Readiness
-        ensures { result ≡ events.kind_for (linux_of self.now) (S.files files.now) worker }
+        ensures { result ≡ kind_for (linux_of self.now) (S.files files.now) worker }
     {
         self.next_kind(self.serves(worker), files)
     }
 
     /// The mirror's row for the next piece of the worker's request: None where the page has none or it lacks the right.
     pub fn row_for(&self, worker: u32) -> Option<(Frame, Rights)>
-        ensures { result ≡ events.row_for (linux_of self.now) worker }
+        ensures { result ≡ row_for (linux_of self.now) worker }
     {
         self.mirror
             .look(self.page_asked(worker), self.access_asked(worker))
@@ -175,7 +176,7 @@ impl Proxy {
 
     /// The end of a pipe on which the stream of a request's call is.
     pub fn pipe_end<S: FileStore>(&self, q: Req, files: &S) -> Option<u64>
-        ensures { result ≡ events.pipe_end (S.files files.now) (service_of (linux_of self.now).services q.0).progress }
+        ensures { result ≡ pipe_end (S.files files.now) (service_of (linux_of self.now).services q.0).progress }
     {
         match self.found(q) {
             Some(d) => end_of(files.description(d).target),
@@ -186,7 +187,7 @@ impl Proxy {
 
 /// The number of a pipe's end.
 fn end_of(target: Target) -> Option<u64>
-    ensures { result ≡ events.end_of_target target }
+    ensures { result ≡ end_of_target target }
 {
     match target {
         Target::ReadEnd(n) => Some(2 * u64::from(n)),

@@ -1,10 +1,11 @@
 // The turns at the ends of pipes.
-ghost use Rattle.std.specs.Prelude.{◌≡◌, IsSome, OnOk, option_map};
-ghost use Rattle.hybrid_model.specs.Linux as events;
-ghost use Rattle.hybrid_model.specs.Linux.{is_turn_for, with_turn, without_turn};
+ghost use Rattle.hybrid_model.specs.Turns.{is_turn_for, other_has_turn, turn_given_up, with_turn, without_turn};
 ghost use Rattle.mck_word.specs.Maps.{at, cut, no_rows};
-ghost use Rattle.proxy_worker.specs.Shown.{HasTurnRoom, shown_turn, turns_of};
+ghost use Rattle.proxy_worker.specs.Shown.{HasTurnRoom, linux_of, shown_turn, turns_of};
+ghost use Rattle.std.specs.Prelude.{◌≡◌, IsSome, OnOk, option_map};
 
+use crate::proxy::Proxy;
+use file_calls::store::FileStore;
 use key_rows::Rows;
 use mck_word::{NoMemory, Pid, Req};
 use std::alloc::Global;
@@ -61,7 +62,7 @@ impl Turns {
 
     /// Whether another request has the turn of the end.
     pub fn other_has_turn(&self, pid: Pid, request: Req, end: Option<u64>) -> bool
-        ensures { result ≡ events.other_has_turn (turns_of self.now) end pid.0 request.0 }
+        ensures { result ≡ other_has_turn (turns_of self.now) end pid.0 request.0 }
     {
         match end {
             Some(end) => self.look(end).is_some() && !self.is_for(pid, request, end),
@@ -102,5 +103,16 @@ impl Turns {
                 },
             );
         }
+    }
+}
+
+impl Proxy {
+    /// Gives up the turn of the request that the worker serves.
+    #[tactic(auto, unfolding(hybrid_model::specs::Turns::turn_given_up))]
+    pub fn give_up_turn<S: FileStore>(&self, worker: u32, files: &S, pid: Pid, turns: &mut Turns)
+        ensures { turns_of turns.new ≡ turn_given_up pid.0 (linux_of self.now) (S.files files.now) worker (turns_of turns.old) }
+    {
+        let q = self.serves(worker);
+        turns.give_up(pid, q, self.pipe_end(q, files));
     }
 }

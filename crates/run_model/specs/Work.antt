@@ -4,7 +4,7 @@ use Rattle.ikc_ring.specs.declared.Msg.TheVariants as Messages
 use Rattle.file_model.specs.Errno.{EPIPE}
 use Rattle.hybrid_model.specs.Events.{after}
 use Rattle.hybrid_model.specs.Journals.{state}
-use Rattle.hybrid_model.specs.Lwk.{memory_here}
+use Rattle.hybrid_model.specs.OneProcess.{memory_here}
 use Rattle.hybrid_model.specs.Pairs.{Pair, here, side_of}
 use Rattle.hybrid_model.specs.Rings.{head_of}
 use Rattle.hybrid_model.specs.declared.events.Event.{Event}

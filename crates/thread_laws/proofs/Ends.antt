@@ -8,7 +8,9 @@ use Rattle.hybrid_laws.proofs.node.Primitives.{at-change}
 use Rattle.hybrid_laws.proofs.node.Threads.{thread-is}
 use Rattle.hybrid_model.specs.Coherence.{OfProcess}
 use Rattle.hybrid_model.specs.Events.{of_thread}
-use Rattle.hybrid_model.specs.Lwk.{caller_of, change_made_of, changed, intake, memory_here, reap, round_over, set_break, take_ack, take_fault, take_reply, take_reply_of}
+use Rattle.hybrid_model.specs.Intake.{caller_of, change_made_of, changed, intake, round_over, take_ack, take_fault, take_reply, take_reply_of}
+use Rattle.hybrid_model.specs.OneProcess.{memory_here, set_break}
+use Rattle.hybrid_model.specs.Reap.{reap}
 use Rattle.hybrid_model.specs.Pairs.{Here, with_side}
 use Rattle.ikc_ring.specs.declared.Msg.TheVariants.{Ack, Answer, Clear, Fault, Interrupt, Reply, Request}
 use Rattle.ikc_ring.specs.declared.Msg.{Msg}

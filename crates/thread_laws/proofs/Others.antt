@@ -1,8 +1,21 @@
 -- Each event but Trap, Intake and Reap leaves the same threads in the same processes.
 use Rattle.hybrid_model.specs.declared.events.Event.TheVariants as Events
 use Rattle.file_model.specs.Errno.{ECHILD, EFAULT}
-use Rattle.hybrid_model.specs.Events.{ack_clear, act_file, after_here, copy, fetch_from, finish_here, miss, park_here, unpark_here}
-use Rattle.hybrid_model.specs.Lwk.{after_deliver, begin_round, begin_vm_of, interrupt_as, is_calling, memory_here, post_answer, post_interrupt, run, run_for, view_here}
+use Rattle.hybrid_model.specs.AckClear.{ack_clear}
+use Rattle.hybrid_model.specs.Act.{act_file}
+use Rattle.hybrid_model.specs.Copy.{copy}
+use Rattle.hybrid_model.specs.Events.{after_here}
+use Rattle.hybrid_model.specs.Fetch.{fetch_from}
+use Rattle.hybrid_model.specs.Finish.{finish_here}
+use Rattle.hybrid_model.specs.Miss.{miss}
+use Rattle.hybrid_model.specs.Park.{park_here}
+use Rattle.hybrid_model.specs.Unpark.{unpark_here}
+use Rattle.hybrid_model.specs.Answer.{post_answer}
+use Rattle.hybrid_model.specs.BeginVm.{begin_round, begin_vm_of}
+use Rattle.hybrid_model.specs.Deliver.{after_deliver}
+use Rattle.hybrid_model.specs.Interrupt.{interrupt_as, is_calling, post_interrupt}
+use Rattle.hybrid_model.specs.OneProcess.{memory_here, view_here}
+use Rattle.hybrid_model.specs.Run.{run, run_for}
 use Rattle.hybrid_model.specs.Pairs.{Here}
 use Rattle.hybrid_model.specs.Rings.{ring}
 use Rattle.hybrid_model.specs.declared.events.Event.{Event}

@@ -3,7 +3,8 @@ use Rattle.hybrid_model.specs.declared.events.Event.TheVariants as Events
 use Rattle.file_model.specs.Errno.{EAGAIN, EINVAL, ENOMEM, ENOSYS}
 use Rattle.hybrid_laws.proofs.calls.Closed.{calls-closed, finishes-closed, raised-closed}
 use Rattle.hybrid_model.specs.Events.{after_here, of_thread}
-use Rattle.hybrid_model.specs.Lwk.{after_trap, set_break, trapped, view_here}
+use Rattle.hybrid_model.specs.OneProcess.{set_break, view_here}
+use Rattle.hybrid_model.specs.Trap.{after_trap, trapped}
 use Rattle.hybrid_model.specs.Pairs.{Here}
 use Rattle.isa_model.specs.Memory.{may_access}
 use Rattle.isa_model.specs.Registers.{reg}

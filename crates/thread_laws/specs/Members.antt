@@ -1,5 +1,5 @@
 -- Which threads there are, each in its process, and what an event leaves of them.
-use Rattle.hybrid_model.specs.Lwk.{caller_of}
+use Rattle.hybrid_model.specs.Intake.{caller_of}
 use Rattle.hybrid_model.specs.Sides.{Side}
 use Rattle.hybrid_model.specs.declared.events.Event.TheVariants.{Intake, Reap, Trap}
 use Rattle.hybrid_model.specs.declared.events.Event.{Event}

@@ -1,7 +1,7 @@
 -- What is left to do, as one number of the state.
 use Rattle.hybrid_laws.specs.Stopped.{stops}
 use Rattle.hybrid_model.specs.Events.{after}
-use Rattle.hybrid_model.specs.Lwk.{left_of_limit}
+use Rattle.hybrid_model.specs.Run.{left_of_limit}
 use Rattle.hybrid_model.specs.Pairs.{Pair}
 use Rattle.hybrid_model.specs.Shown.{one}
 use Rattle.hybrid_model.specs.declared.events.Event.{Event}

@@ -4,7 +4,7 @@ use Rattle.request_book.specs.declared.ReqState.TheVariants as States
 use Rattle.clear_rounds.specs.declared.Phase.{Phase}
 use Rattle.clear_rounds.specs.declared.Phase.TheVariants.{Posted, Taken, Acked}
 use Rattle.file_model.specs.Files.{Files}
-use Rattle.hybrid_model.specs.Linux.{is_uncopied}
+use Rattle.hybrid_model.specs.Copy.{is_uncopied}
 use Rattle.hybrid_model.specs.Pairs.{Pair}
 use Rattle.hybrid_model.specs.Sides.{LinuxSide, Noted, Round, Row, Service, Side, looked_up, service_of}
 use Rattle.hybrid_model.specs.Tallies.{Reads, sum_rings, tally}

@@ -10,8 +10,9 @@ use Rattle.hybrid_laws.proofs.rings.InRings.{in_rings, rings-back}
 use Rattle.hybrid_laws.proofs.states.Simulated.{simulated-none}
 use Rattle.hybrid_laws.specs.Simulated.{Simulated}
 use Rattle.hybrid_model.specs.Coherence.{ClearIsOf, FaultIsFor, IsOutside, OfProcess, Rounded, acks, clears, faults_of}
-use Rattle.hybrid_model.specs.Events.{ack_clear, after_here, may_here}
-use Rattle.hybrid_model.specs.Linux.{clear_in}
+use Rattle.hybrid_model.specs.AckClear.{ack_clear}
+use Rattle.hybrid_model.specs.Events.{after_here, may_here}
+use Rattle.hybrid_model.specs.AckClear.{clear_in}
 use Rattle.hybrid_model.specs.Pairs.{Here}
 use Rattle.hybrid_model.specs.Shown.{has_empty, status_in}
 use Rattle.hybrid_model.specs.Sides.{Round, Row, call_in, service_of, state_in, with_phase}

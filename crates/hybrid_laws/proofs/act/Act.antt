@@ -11,9 +11,12 @@ use Rattle.hybrid_laws.proofs.requests.Statuses.{put-other, put-own, status-if, 
 use Rattle.hybrid_laws.proofs.states.Simulated.{simulated-one}
 use Rattle.hybrid_laws.specs.Simulated.{Simulated}
 use Rattle.hybrid_model.specs.Coherence.{OfProcess}
-use Rattle.hybrid_model.specs.Events.{act_file, after_here, may_here}
-use Rattle.hybrid_model.specs.Images.{one_step}
-use Rattle.hybrid_model.specs.Linux.{acted, is_free_to_act, kind_for, may_act, state_if, stepped_service, turn_given_up}
+use Rattle.hybrid_model.specs.Act.{act_file}
+use Rattle.hybrid_model.specs.Events.{after_here, may_here}
+use Rattle.hybrid_model.specs.OneProcess.{one_step}
+use Rattle.hybrid_model.specs.Act.{acted, may_act}
+use Rattle.hybrid_model.specs.Turns.{turn_given_up}
+use Rattle.hybrid_model.specs.Workers.{is_free_to_act, kind_for, state_if, stepped_service}
 use Rattle.hybrid_model.specs.Pairs.{Here}
 use Rattle.hybrid_model.specs.Shown.{has_empty, reply_code, shown_born, shown_call, status_of, shown_here}
 use Rattle.hybrid_model.specs.Sides.{Service, Side, service_of, with_service, with_state, Caller}

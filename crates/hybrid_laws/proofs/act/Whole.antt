@@ -12,10 +12,11 @@ use Rattle.hybrid_laws.proofs.states.Steps.{SimulatedPair, simulated-pair}
 use Rattle.hybrid_laws.proofs.states.Turns.{stated-other}
 use Rattle.hybrid_laws.specs.CallSteps.{StepCarries}
 use Rattle.hybrid_model.specs.Coherence.{OfProcess}
-use Rattle.hybrid_model.specs.Events.{act_file, after, may, may_here}
+use Rattle.hybrid_model.specs.Act.{act_file}
+use Rattle.hybrid_model.specs.Events.{after, may, may_here}
 use Rattle.hybrid_model.specs.Globals.{Coherent, ring_number, waits_or_held}
-use Rattle.hybrid_model.specs.Linux.{state_if, stepped_service}
-use Rattle.hybrid_model.specs.Lwk.{thread_served}
+use Rattle.hybrid_model.specs.Workers.{state_if, stepped_service}
+use Rattle.hybrid_model.specs.Answer.{thread_served}
 use Rattle.hybrid_model.specs.Pairs.{Here, Pair, here, put_here}
 use Rattle.hybrid_model.specs.Sides.{Service, Side, no_service, service_of, state_in, with_service, with_state}
 use Rattle.kernel_model.specs.Nodes.{Thread, is_there, no_thread, thread_of}

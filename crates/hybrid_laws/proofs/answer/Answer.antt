@@ -6,7 +6,7 @@ use Rattle.hybrid_laws.proofs.node.Primitives.{then}
 use Rattle.hybrid_laws.proofs.rings.Placing.{Marked-post, Messages-post}
 use Rattle.hybrid_model.specs.Coherence.{AnswerCovered, AnswerIsFor, ClearIsOf, Covered, InterruptIs, IsForNext, IsOutside, NotAhead, OfProcess, RequestIs, Rounded, Served, answers_to, asks, clears, goes_to_linux}
 use Rattle.hybrid_model.specs.Events.{after_here, may_here}
-use Rattle.hybrid_model.specs.Lwk.{may_answer, noted_may_be_answered, post_answer, thread_served}
+use Rattle.hybrid_model.specs.Answer.{may_answer, noted_may_be_answered, post_answer, thread_served}
 use Rattle.hybrid_model.specs.Pairs.{Here, ring_of}
 use Rattle.hybrid_model.specs.Rings.{post}
 use Rattle.hybrid_model.specs.Sides.{Noted, Round, Row, Service, Side, closes, looked_up}

@@ -11,8 +11,9 @@ use Rattle.hybrid_laws.proofs.states.Simulated.{simulated-none, simulated-one}
 use Rattle.hybrid_laws.specs.Simulated.{Simulated}
 use Rattle.hybrid_model.specs.Coherence.{IsForNext, OfProcess, answers_to, faulting, faults_of, is_faulted}
 use Rattle.hybrid_model.specs.Events.{may_here}
-use Rattle.hybrid_model.specs.Images.{image_here, image_of_answer}
-use Rattle.hybrid_model.specs.Lwk.{answer_to, files_after_answer, give_answer, noted_of, post_answer, thread_served}
+use Rattle.hybrid_model.specs.Answer.{image_of_answer}
+use Rattle.hybrid_model.specs.Images.{image_here}
+use Rattle.hybrid_model.specs.Answer.{answer_to, files_after_answer, give_answer, noted_of, post_answer, thread_served}
 use Rattle.hybrid_model.specs.Pairs.{Here, ring_of}
 use Rattle.hybrid_model.specs.Rings.{post}
 use Rattle.hybrid_model.specs.Shown.{any_empty, has_empty, is_empty_for, reply_code, serves_it, shown_born, shown_call, shown_here, shown_own, status_in, status_of, ended_if}

@@ -18,9 +18,10 @@ use Rattle.hybrid_laws.proofs.trap.Begins.{ring-there}
 use Rattle.hybrid_laws.specs.CallSteps.{Carries}
 use Rattle.hybrid_model.specs.Events.{after, may, may_here}
 use Rattle.hybrid_model.specs.Globals.{Coherent, TurnsHold, ring_number, waits_or_held}
-use Rattle.hybrid_model.specs.Images.{image_here, image_of_answer}
-use Rattle.hybrid_model.specs.Linux.{is_turn_for}
-use Rattle.hybrid_model.specs.Lwk.{answer_to, files_after_answer, noted_of, post_answer, thread_served}
+use Rattle.hybrid_model.specs.Answer.{image_of_answer}
+use Rattle.hybrid_model.specs.Images.{image_here}
+use Rattle.hybrid_model.specs.Turns.{is_turn_for}
+use Rattle.hybrid_model.specs.Answer.{answer_to, files_after_answer, noted_of, post_answer, thread_served}
 use Rattle.hybrid_model.specs.Pairs.{Here, Pair, here, ring_of, side_of}
 use Rattle.hybrid_model.specs.Shown.{status_of}
 use Rattle.hybrid_model.specs.Sides.{Row, Side, Turn, served, service_of, state_in, state_of}

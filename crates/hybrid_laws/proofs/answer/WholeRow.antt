@@ -12,8 +12,9 @@ use Rattle.hybrid_laws.proofs.trap.Begins.{ring-there}
 use Rattle.hybrid_laws.specs.Simulated.{steps_after}
 use Rattle.hybrid_model.specs.Events.{after, may, may_here}
 use Rattle.hybrid_model.specs.Globals.{Coherent, ring_number}
-use Rattle.hybrid_model.specs.Images.{image_here, image_of_answer}
-use Rattle.hybrid_model.specs.Lwk.{answer_to, files_after_answer, noted_of, post_answer, thread_served}
+use Rattle.hybrid_model.specs.Answer.{image_of_answer}
+use Rattle.hybrid_model.specs.Images.{image_here}
+use Rattle.hybrid_model.specs.Answer.{answer_to, files_after_answer, noted_of, post_answer, thread_served}
 use Rattle.hybrid_model.specs.Pairs.{Here, Pair, here, ring_of, side_of}
 use Rattle.hybrid_model.specs.Shown.{shown_here, shown_own}
 use Rattle.hybrid_model.specs.Sides.{Row, Side, served}

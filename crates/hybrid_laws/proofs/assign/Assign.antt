@@ -9,7 +9,7 @@ use Rattle.hybrid_laws.proofs.states.Simulated.{simulated-none}
 use Rattle.hybrid_laws.specs.Simulated.{Simulated}
 use Rattle.hybrid_model.specs.Coherence.{Served, IsForNext, state_at, service_at, is_waiting, OfProcess}
 use Rattle.hybrid_model.specs.Events.{after_here, may_here}
-use Rattle.hybrid_model.specs.Linux.{assign}
+use Rattle.hybrid_model.specs.Assign.{assign}
 use Rattle.hybrid_model.specs.Pairs.{Here}
 use Rattle.hybrid_model.specs.Shown.{has_empty, reply_code, serves_it, shown_own, status_by, status_in, shown_born, shown_here}
 use Rattle.hybrid_model.specs.Sides.{Noted, Service, Side, service_of, call_in, no_service, state_in, with_state, LinuxSide}

@@ -9,7 +9,7 @@ use Rattle.hybrid_laws.proofs.states.Steps.{SimulatedPair, simulated-pair}
 use Rattle.hybrid_model.specs.Coherence.{service_at}
 use Rattle.hybrid_model.specs.Events.{after, after_here, may, may_here}
 use Rattle.hybrid_model.specs.Globals.{Coherent, ring_number, waits_or_held}
-use Rattle.hybrid_model.specs.Linux.{assign}
+use Rattle.hybrid_model.specs.Assign.{assign}
 use Rattle.hybrid_model.specs.Pairs.{Here, Pair, here}
 use Rattle.hybrid_model.specs.Sides.{Service, Side, service_of, state_in, state_of, stated}
 use Rattle.hybrid_model.specs.Spaces.{first_number}

@@ -10,7 +10,7 @@ use Rattle.hybrid_laws.proofs.states.Simulated.{simulated-none}
 use Rattle.hybrid_laws.specs.Simulated.{Simulated}
 use Rattle.hybrid_model.specs.Coherence.{OfProcess, Covered, Rounded, AnswerCovered, AnswerIsFor, ClearIsOf, IsOutside, NotAhead, answers_to, asks, clears, RequestIs, InterruptIs, goes_to_linux}
 use Rattle.hybrid_model.specs.Events.{after_here, may_here}
-use Rattle.hybrid_model.specs.Lwk.{begin_round, begin_vm_of, may_begin_vm}
+use Rattle.hybrid_model.specs.BeginVm.{begin_round, begin_vm_of, may_begin_vm}
 use Rattle.hybrid_model.specs.Pairs.{Here, ring_of}
 use Rattle.hybrid_model.specs.Rings.{post}
 use Rattle.hybrid_model.specs.Shown.{status_in, shown_own, reply_code, shown_born, shown_here}

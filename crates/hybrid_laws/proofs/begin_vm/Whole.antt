@@ -10,7 +10,7 @@ use Rattle.hybrid_laws.proofs.trap.Begins.{ring-there}
 use Rattle.hybrid_laws.specs.OneProcess.{RingsHold}
 use Rattle.hybrid_model.specs.Events.{after, may, may_here}
 use Rattle.hybrid_model.specs.Globals.{Coherent, ring_number}
-use Rattle.hybrid_model.specs.Lwk.{begin_round, begin_vm_of}
+use Rattle.hybrid_model.specs.BeginVm.{begin_round, begin_vm_of}
 use Rattle.hybrid_model.specs.Pairs.{Here, Pair, here, put_here, ring_of, side_of}
 use Rattle.hybrid_model.specs.Rings.{post}
 use Rattle.hybrid_model.specs.Shown.{shown_own}

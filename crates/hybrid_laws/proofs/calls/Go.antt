@@ -7,8 +7,24 @@ use Rattle.hybrid_laws.proofs.requests.Serving.{Serves, ended-it, free-to-act, h
 use Rattle.hybrid_laws.specs.Journals.{gone, gone_in}
 use Rattle.hybrid_laws.specs.Lasting.{IsTold, MarksTold}
 use Rattle.hybrid_model.specs.Coherence.{OfProcess, interrupts_of, is_waiting, state_at}
-use Rattle.hybrid_model.specs.Events.{ack_clear, act_file, after_here, copy, finish_here, may_here, miss, park_here, unpark_here}
-use Rattle.hybrid_model.specs.Linux.{acted, assign, copied, finish, has_pin, holds, is_ended_or_replied, is_ended_request, is_free_to_act, is_parked, is_uncopied, kind_for, may_act, may_copy, may_finish, may_miss, may_park, may_take_turn, moved_by, park_blocks, park_stops, parks, pin, pinned, row_for, state_if, stepped, stepped_book, stepped_service, unpark, unpin}
+use Rattle.hybrid_model.specs.AckClear.{ack_clear}
+use Rattle.hybrid_model.specs.Act.{act_file}
+use Rattle.hybrid_model.specs.Copy.{copy}
+use Rattle.hybrid_model.specs.Events.{after_here, may_here}
+use Rattle.hybrid_model.specs.Finish.{finish_here}
+use Rattle.hybrid_model.specs.Miss.{miss}
+use Rattle.hybrid_model.specs.Park.{park_here}
+use Rattle.hybrid_model.specs.Unpark.{unpark_here}
+use Rattle.hybrid_model.specs.Act.{acted, may_act}
+use Rattle.hybrid_model.specs.Assign.{assign}
+use Rattle.hybrid_model.specs.Copy.{copied, is_uncopied, may_copy, moved_by}
+use Rattle.hybrid_model.specs.Finish.{finish, may_finish}
+use Rattle.hybrid_model.specs.Miss.{may_miss}
+use Rattle.hybrid_model.specs.Park.{may_park, park_blocks, park_stops, parks}
+use Rattle.hybrid_model.specs.Pin.{pin, pinned}
+use Rattle.hybrid_model.specs.Unpark.{may_take_turn, unpark}
+use Rattle.hybrid_model.specs.Unpin.{unpin}
+use Rattle.hybrid_model.specs.Workers.{has_pin, holds, is_ended_or_replied, is_ended_request, is_free_to_act, is_parked, kind_for, row_for, state_if, stepped, stepped_book, stepped_service}
 use Rattle.hybrid_model.specs.Pairs.{Here}
 use Rattle.hybrid_model.specs.Sides.{Book, Caller, Row, Service, Side, no_service, pin_of, served, serves, service_of, state_in, state_of, stated}
 use Rattle.hybrid_model.specs.Spaces.{first_number, frame_bytes}

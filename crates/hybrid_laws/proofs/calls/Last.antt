@@ -10,9 +10,25 @@ use Rattle.hybrid_laws.specs.Journals.{gone, gone_in}
 use Rattle.hybrid_laws.specs.Lasting.{Lasting, MarksTold}
 use Rattle.hybrid_model.specs.Claims.{posts_reply}
 use Rattle.hybrid_model.specs.Coherence.{OfProcess}
-use Rattle.hybrid_model.specs.Events.{ack_clear, act_file, after, after_here, copy, fetch_from, finish_here, may, may_here, miss, park_here, process_of_event, unpark_here}
+use Rattle.hybrid_model.specs.AckClear.{ack_clear}
+use Rattle.hybrid_model.specs.Act.{act_file}
+use Rattle.hybrid_model.specs.Copy.{copy}
+use Rattle.hybrid_model.specs.Events.{after, after_here, may, may_here, process_of_event}
+use Rattle.hybrid_model.specs.Fetch.{fetch_from}
+use Rattle.hybrid_model.specs.Finish.{finish_here}
+use Rattle.hybrid_model.specs.Miss.{miss}
+use Rattle.hybrid_model.specs.Park.{park_here}
+use Rattle.hybrid_model.specs.Unpark.{unpark_here}
 use Rattle.hybrid_model.specs.Globals.{Coherent, ring_number}
-use Rattle.hybrid_model.specs.Lwk.{after_deliver, after_trap, begin_round, begin_vm_of, caller_of, change_made_of, changed, changing_thread, child_side, child_space, intake, interrupt_as, is_calling, memory_here, post_answer, post_interrupt, reap, round_over, run, space_here, take_ack, take_fault, take_reply, take_reply_of, trapped, view_here, with_stores, with_view}
+use Rattle.hybrid_model.specs.Answer.{post_answer}
+use Rattle.hybrid_model.specs.BeginVm.{begin_round, begin_vm_of}
+use Rattle.hybrid_model.specs.Deliver.{after_deliver}
+use Rattle.hybrid_model.specs.Intake.{caller_of, change_made_of, changed, changing_thread, intake, round_over, take_ack, take_fault, take_reply, take_reply_of}
+use Rattle.hybrid_model.specs.Interrupt.{interrupt_as, is_calling, post_interrupt}
+use Rattle.hybrid_model.specs.OneProcess.{memory_here, space_here, view_here, with_view}
+use Rattle.hybrid_model.specs.Reap.{reap}
+use Rattle.hybrid_model.specs.Run.{run}
+use Rattle.hybrid_model.specs.Trap.{after_trap, child_side, child_space, trapped, with_stores}
 use Rattle.hybrid_model.specs.Pairs.{Here, Pair, here, side_of, with_born, with_side}
 use Rattle.hybrid_model.specs.Rings.{ring}
 use Rattle.hybrid_model.specs.Sides.{Book, Caller, Side, new_side, no_book, serves}

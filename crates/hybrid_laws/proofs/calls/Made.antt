@@ -6,8 +6,16 @@ use Rattle.hybrid_laws.specs.Journals.{gone, gone_in}
 use Rattle.hybrid_laws.specs.Lasting.{IsTold, MarksTold}
 use Rattle.hybrid_model.specs.Coherence.{OfProcess, interrupts_of}
 use Rattle.hybrid_model.specs.Events.{after_here}
-use Rattle.hybrid_model.specs.Linux.{is_ended_or_replied}
-use Rattle.hybrid_model.specs.Lwk.{after_deliver, after_trap, answer_to, begin_call, begin_round, begin_vm_of, call_made, caller_at, caller_of, change_made_of, changed, changing_thread, intake, interrupt_as, is_calling, memory_here, noted_of, post_answer, post_interrupt, reap, round_over, run, take_ack, take_fault, take_reply, take_reply_of, thread_served, trapped, view_here}
+use Rattle.hybrid_model.specs.Workers.{is_ended_or_replied}
+use Rattle.hybrid_model.specs.Answer.{answer_to, noted_of, post_answer, thread_served}
+use Rattle.hybrid_model.specs.BeginVm.{begin_round, begin_vm_of}
+use Rattle.hybrid_model.specs.Deliver.{after_deliver}
+use Rattle.hybrid_model.specs.Intake.{caller_of, change_made_of, changed, changing_thread, intake, round_over, take_ack, take_fault, take_reply, take_reply_of}
+use Rattle.hybrid_model.specs.Interrupt.{caller_at, interrupt_as, is_calling, post_interrupt}
+use Rattle.hybrid_model.specs.OneProcess.{memory_here, view_here}
+use Rattle.hybrid_model.specs.Reap.{reap}
+use Rattle.hybrid_model.specs.Run.{run}
+use Rattle.hybrid_model.specs.Trap.{after_trap, begin_call, call_made, trapped}
 use Rattle.hybrid_model.specs.Pairs.{Here, ring_of, with_side}
 use Rattle.hybrid_model.specs.Sides.{Book, Caller, LinuxSide, Side, service_of, state_in, state_of}
 use Rattle.hybrid_model.specs.Tallies.{as_number, if_same, sum_rings}

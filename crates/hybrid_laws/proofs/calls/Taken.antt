@@ -5,8 +5,10 @@ use Rattle.hybrid_laws.proofs.fetch.Answer.{answered-for}
 use Rattle.hybrid_laws.proofs.maps.Reading.{first-of, sum-take}
 use Rattle.hybrid_laws.specs.Lasting.{IsTold}
 use Rattle.hybrid_model.specs.Coherence.{OfProcess, RequestIs, interrupts_of, is_fetched}
-use Rattle.hybrid_model.specs.Events.{after_here, fetch_from, with_fetched}
-use Rattle.hybrid_model.specs.Linux.{Fetched, fetch_clear, fetch_empty, fetch_interrupt, fetch_request, fetch_row, fetched_as, is_ended_or_replied, marked_for_linux, new_service}
+use Rattle.hybrid_model.specs.Events.{after_here}
+use Rattle.hybrid_model.specs.Fetch.{fetch_from, with_fetched}
+use Rattle.hybrid_model.specs.Fetch.{Fetched, fetch_clear, fetch_empty, fetch_interrupt, fetch_request, fetch_row, fetched_as, marked_for_linux, new_service}
+use Rattle.hybrid_model.specs.Workers.{is_ended_or_replied}
 use Rattle.hybrid_model.specs.Pairs.{Here}
 use Rattle.hybrid_model.specs.Rings.{ring, with_ring}
 use Rattle.hybrid_model.specs.Sides.{Row, Service, Side, no_service, served, serves, service_of, state_in, state_of}

@@ -6,8 +6,10 @@ use Rattle.hybrid_laws.proofs.requests.HeldStep.{held-row, served_step, state-fa
 use Rattle.hybrid_laws.proofs.requests.OneRequest.{files-any, goes_on}
 use Rattle.hybrid_model.specs.Claims.{Reaches}
 use Rattle.hybrid_model.specs.Coherence.{OfProcess, Covers, PinServes, acked_at, is_faulted, service_at}
-use Rattle.hybrid_model.specs.Events.{after_here, copy, may_here}
-use Rattle.hybrid_model.specs.Linux.{copied, stepped_book, stepped_service, state_if, holds, is_uncopied, kind_for, may_copy, moved_by}
+use Rattle.hybrid_model.specs.Copy.{copy}
+use Rattle.hybrid_model.specs.Events.{after_here, may_here}
+use Rattle.hybrid_model.specs.Copy.{copied, is_uncopied, may_copy, moved_by}
+use Rattle.hybrid_model.specs.Workers.{stepped_book, stepped_service, state_if, holds, kind_for}
 use Rattle.hybrid_model.specs.Pairs.{Here}
 use Rattle.hybrid_model.specs.Sides.{Side, Service, service_of, LinuxSide, pin_of}
 use Rattle.hybrid_model.specs.Spaces.{frame_bytes}

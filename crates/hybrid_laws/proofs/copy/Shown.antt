@@ -10,9 +10,11 @@ use Rattle.hybrid_laws.proofs.requests.Statuses.{put-other, put-own, status-if, 
 use Rattle.hybrid_laws.proofs.states.Simulated.{simulated-one}
 use Rattle.hybrid_laws.specs.Simulated.{Simulated}
 use Rattle.hybrid_model.specs.Coherence.{Covers, OfProcess, PinServes}
-use Rattle.hybrid_model.specs.Events.{copy, may_here}
-use Rattle.hybrid_model.specs.Images.{one_step}
-use Rattle.hybrid_model.specs.Linux.{copied, moved_by, state_if, stepped_service}
+use Rattle.hybrid_model.specs.Copy.{copy}
+use Rattle.hybrid_model.specs.Events.{may_here}
+use Rattle.hybrid_model.specs.OneProcess.{one_step}
+use Rattle.hybrid_model.specs.Copy.{copied, moved_by}
+use Rattle.hybrid_model.specs.Workers.{state_if, stepped_service}
 use Rattle.hybrid_model.specs.Pairs.{Here}
 use Rattle.hybrid_model.specs.Shown.{has_empty, reply_code, shown_born, shown_call, shown_here}
 use Rattle.hybrid_model.specs.Sides.{Caller, Row, Service, Side, service_of, with_state}

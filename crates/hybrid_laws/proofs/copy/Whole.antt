@@ -15,10 +15,13 @@ use Rattle.hybrid_laws.proofs.states.Turns.{stated-other}
 use Rattle.hybrid_laws.specs.CallSteps.{StepCarries}
 use Rattle.hybrid_model.specs.Claims.{CopyReaches}
 use Rattle.hybrid_model.specs.Coherence.{Covers, OfProcess, PinServes}
-use Rattle.hybrid_model.specs.Events.{after, copy, may, may_here}
+use Rattle.hybrid_model.specs.Copy.{copy}
+use Rattle.hybrid_model.specs.Events.{after, may, may_here}
 use Rattle.hybrid_model.specs.Globals.{Coherent, ring_number, table_of, waits_or_held}
-use Rattle.hybrid_model.specs.Linux.{copied, moved_by, state_if, stepped_service, turn_given_up}
-use Rattle.hybrid_model.specs.Lwk.{thread_served}
+use Rattle.hybrid_model.specs.Copy.{copied, moved_by}
+use Rattle.hybrid_model.specs.Turns.{turn_given_up}
+use Rattle.hybrid_model.specs.Workers.{state_if, stepped_service}
+use Rattle.hybrid_model.specs.Answer.{thread_served}
 use Rattle.hybrid_model.specs.Pairs.{Here, Pair, here, put_here}
 use Rattle.hybrid_model.specs.Shown.{has_empty, reply_code, shown_call, shown_own, status_of}
 use Rattle.hybrid_model.specs.Sides.{Row, Service, Side, new_side, no_service, service_of, with_state, state_in}

@@ -12,7 +12,8 @@ use Rattle.hybrid_laws.proofs.states.Quiet.{apart-own, keeping-quiet, other-show
 use Rattle.hybrid_laws.proofs.states.Steps.{SimulatedPair, simulated-pair}
 use Rattle.hybrid_model.specs.Events.{may_here, after, may}
 use Rattle.hybrid_model.specs.Globals.{Coherent, ring_number}
-use Rattle.hybrid_model.specs.Lwk.{after_deliver, memory_here, view_here}
+use Rattle.hybrid_model.specs.Deliver.{after_deliver}
+use Rattle.hybrid_model.specs.OneProcess.{memory_here, view_here}
 use Rattle.hybrid_model.specs.Pairs.{Here, Pair, here, side_of}
 use Rattle.kernel_model.specs.Nodes.{Thread, is_asleep, is_living, is_there, ready_to_run, thread_of}
 use Rattle.kernel_model.specs.Signals.{deliver, is_deliverable, stored_all}

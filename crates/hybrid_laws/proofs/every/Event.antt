@@ -10,7 +10,7 @@ use Rattle.hybrid_laws.proofs.trap.WholeForks.{coherent_trap_forks, simulated_pa
 use Rattle.hybrid_laws.specs.EventKinds.{is_of_linux, is_quiet_lwk}
 use Rattle.hybrid_model.specs.Events.{after, may}
 use Rattle.hybrid_model.specs.Globals.{Coherent}
-use Rattle.hybrid_model.specs.Lwk.{view_here}
+use Rattle.hybrid_model.specs.OneProcess.{view_here}
 use Rattle.hybrid_model.specs.Pairs.{Pair, here}
 use Rattle.hybrid_model.specs.declared.events.Event.{Event}
 use Rattle.kernel_model.specs.Nodes.{thread_of}

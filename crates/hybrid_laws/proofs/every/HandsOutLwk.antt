@@ -17,7 +17,8 @@ use Rattle.hybrid_model.specs.Claims.{HandsOutFresh, Holds}
 use Rattle.hybrid_model.specs.Coherence.{IsOutside, NotAhead, OfProcess, acked, acked_at, acks, is_acked_phase, is_posted_phase, phase_acked, phase_taken, posted, taken_at}
 use Rattle.hybrid_model.specs.Events.{after, may, may_here}
 use Rattle.hybrid_model.specs.Globals.{Coherent, HeapHolds, ring_number, table_of}
-use Rattle.hybrid_model.specs.Lwk.{caller_of, changed, intake, memory_here, round_over, space_here, take_fault, take_reply, take_reply_of}
+use Rattle.hybrid_model.specs.Intake.{caller_of, changed, intake, round_over, take_fault, take_reply, take_reply_of}
+use Rattle.hybrid_model.specs.OneProcess.{memory_here, space_here}
 use Rattle.hybrid_model.specs.Pairs.{Here, Pair, here, put_here, side_of, with_born, with_side}
 use Rattle.hybrid_model.specs.Sides.{Round, Side, closes, new_side}
 use Rattle.hybrid_model.specs.Tallies.{tally}

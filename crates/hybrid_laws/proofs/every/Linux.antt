@@ -13,7 +13,15 @@ use Rattle.hybrid_laws.proofs.unpark.Whole.{coherent_unpark, simulated_unpark}
 use Rattle.hybrid_laws.proofs.unpin.Whole.{coherent_unpin, simulated_unpin}
 use Rattle.hybrid_laws.specs.EventKinds.{is_of_linux}
 use Rattle.hybrid_model.specs.Claims.{HandsOutFresh, Holds}
-use Rattle.hybrid_model.specs.Events.{ack_clear, act_file, after, after_here, copy, fetch_from, finish_here, may, miss, park_here, process_of_event, unpark_here}
+use Rattle.hybrid_model.specs.AckClear.{ack_clear}
+use Rattle.hybrid_model.specs.Act.{act_file}
+use Rattle.hybrid_model.specs.Copy.{copy}
+use Rattle.hybrid_model.specs.Events.{after, after_here, may, process_of_event}
+use Rattle.hybrid_model.specs.Fetch.{fetch_from}
+use Rattle.hybrid_model.specs.Finish.{finish_here}
+use Rattle.hybrid_model.specs.Miss.{miss}
+use Rattle.hybrid_model.specs.Park.{park_here}
+use Rattle.hybrid_model.specs.Unpark.{unpark_here}
 use Rattle.hybrid_model.specs.Globals.{Coherent, table_of}
 use Rattle.hybrid_model.specs.Pairs.{Here, Pair, here, put_here, side_of, with_born}
 use Rattle.hybrid_model.specs.Rings.{ring}

@@ -21,7 +21,12 @@ use Rattle.hybrid_laws.specs.EventKinds.{is_quiet_lwk}
 use Rattle.hybrid_model.specs.Claims.{HandsOutFresh, Holds}
 use Rattle.hybrid_model.specs.Events.{after, after_here, may, may_here, process_of_event}
 use Rattle.hybrid_model.specs.Globals.{Coherent, table_of}
-use Rattle.hybrid_model.specs.Lwk.{after_deliver, begin_round, begin_vm_of, interrupt_as, is_calling, post_interrupt, run, answer_to, emptied, post_answer, reap}
+use Rattle.hybrid_model.specs.Answer.{answer_to, post_answer}
+use Rattle.hybrid_model.specs.BeginVm.{begin_round, begin_vm_of}
+use Rattle.hybrid_model.specs.Deliver.{after_deliver}
+use Rattle.hybrid_model.specs.Interrupt.{interrupt_as, is_calling, post_interrupt}
+use Rattle.hybrid_model.specs.Reap.{emptied, reap}
+use Rattle.hybrid_model.specs.Run.{run}
 use Rattle.hybrid_model.specs.Pairs.{Here, Pair, here, side_of}
 use Rattle.hybrid_model.specs.Sides.{Row, Side, new_side}
 use Rattle.hybrid_model.specs.declared.events.Event.{Event}

@@ -4,7 +4,7 @@ use Rattle.hybrid_laws.proofs.maps.Reading.{first-of, reads-put}
 use Rattle.hybrid_laws.proofs.requests.OneRequest.{with_messages}
 use Rattle.hybrid_laws.proofs.rings.InRings.{InRings, in_rings, rings-services, rings-take}
 use Rattle.hybrid_model.specs.Coherence.{OfProcess, Covered, Rounded, AnswerCovered, IsOutside, NotAhead, is_fetched, is_posted, state_at, service_at}
-use Rattle.hybrid_model.specs.Linux.{fetch_row, fetch_empty, installed}
+use Rattle.hybrid_model.specs.Fetch.{fetch_row, fetch_empty, installed}
 use Rattle.hybrid_model.specs.Rings.{ring, with_ring}
 use Rattle.hybrid_model.specs.Sides.{Side, Row, Service, service_of, with_state, LinuxSide}
 use Rattle.hybrid_model.specs.Tallies.{Reads, with_at}

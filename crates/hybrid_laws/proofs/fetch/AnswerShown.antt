@@ -3,7 +3,7 @@ use Rattle.hybrid_laws.proofs.fetch.AnswerKeeps.{found}
 use Rattle.hybrid_laws.proofs.maps.Reading.{reads-put, reads-stated, sum-take}
 use Rattle.hybrid_laws.proofs.requests.Showing.{empty-there, has_empty-take, no_empty, shown-same}
 use Rattle.hybrid_model.specs.Coherence.{OfProcess, Served, answers_to, service_at}
-use Rattle.hybrid_model.specs.Linux.{fetch_row, fetch_empty, installed}
+use Rattle.hybrid_model.specs.Fetch.{fetch_row, fetch_empty, installed}
 use Rattle.hybrid_model.specs.Rings.{ring, with_ring}
 use Rattle.hybrid_model.specs.Shown.{has_empty, serves_it, status_by, status_in, shown_own, reply_code}
 use Rattle.hybrid_model.specs.Sides.{Side, Row, Service, no_service, state_in, call_in, service_of, with_state, Noted}

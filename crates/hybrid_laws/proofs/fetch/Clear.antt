@@ -7,8 +7,8 @@ use Rattle.hybrid_laws.proofs.requests.Silent.{shown-silent}
 use Rattle.hybrid_laws.proofs.rings.InRings.{in_rings, rings-take}
 use Rattle.hybrid_laws.proofs.rings.Taking.{taken-served}
 use Rattle.hybrid_model.specs.Coherence.{AnswerCovered, ClearIsOf, Covered, Covers, IsOutside, NotAhead, OfProcess, Owned, Rounded, clears}
-use Rattle.hybrid_model.specs.Events.{with_fetched}
-use Rattle.hybrid_model.specs.Linux.{fetch_clear}
+use Rattle.hybrid_model.specs.Fetch.{with_fetched}
+use Rattle.hybrid_model.specs.Fetch.{fetch_clear}
 use Rattle.hybrid_model.specs.Pairs.{Here}
 use Rattle.hybrid_model.specs.Rings.{ring, with_ring}
 use Rattle.hybrid_model.specs.Shown.{reply_code, shown_here, status_in}

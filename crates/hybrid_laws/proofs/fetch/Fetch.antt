@@ -11,7 +11,8 @@ use Rattle.hybrid_laws.proofs.requests.Silent.{shown-as}
 use Rattle.hybrid_laws.proofs.states.Simulated.{simulated-none}
 use Rattle.hybrid_laws.specs.Simulated.{Simulated}
 use Rattle.hybrid_model.specs.Coherence.{OfProcess, goes_to_linux}
-use Rattle.hybrid_model.specs.Events.{after_here, fetch_from}
+use Rattle.hybrid_model.specs.Events.{after_here}
+use Rattle.hybrid_model.specs.Fetch.{fetch_from}
 use Rattle.hybrid_model.specs.Pairs.{Here}
 use Rattle.hybrid_model.specs.Rings.{ring}
 use Rattle.hybrid_model.specs.Shown.{shown_here}

@@ -6,8 +6,9 @@ use Rattle.hybrid_laws.proofs.requests.Silent.{shown-silent}
 use Rattle.hybrid_laws.proofs.rings.Placing.{Marked-take}
 use Rattle.hybrid_laws.proofs.rings.Taking.{taken-covered, taken-rounded, taken-served}
 use Rattle.hybrid_model.specs.Coherence.{AtMostInterrupt, AtMostRequest, InterruptIs, IsForNext, IsPart, Marked, Messages, OfProcess, OnlyOwn, Placed, RequestIs, Served, holder, interrupts_of, is_fetched, is_posted, of_place, service_at, state_at}
-use Rattle.hybrid_model.specs.Events.{with_fetched}
-use Rattle.hybrid_model.specs.Linux.{fetch_interrupt, is_ended_or_replied, marked_for_linux}
+use Rattle.hybrid_model.specs.Fetch.{with_fetched}
+use Rattle.hybrid_model.specs.Fetch.{fetch_interrupt, marked_for_linux}
+use Rattle.hybrid_model.specs.Workers.{is_ended_or_replied}
 use Rattle.hybrid_model.specs.Pairs.{Here, with_side}
 use Rattle.hybrid_model.specs.Rings.{ring, with_ring}
 use Rattle.hybrid_model.specs.Shown.{has_empty, reply_code, shown_here, status_by, status_in, status_of}

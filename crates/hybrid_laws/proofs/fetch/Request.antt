@@ -3,7 +3,7 @@ use Rattle.hybrid_laws.proofs.maps.Reading.{Each-map, EachRing-take, EachRing-wh
 use Rattle.hybrid_laws.proofs.requests.Requests.{Answered-state, IsForNext-keeps, PinServes-keeps, answers-keep, directions-take, faults-keep, interrupts-state, live-state, noted-keep, tid-state}
 use Rattle.hybrid_laws.proofs.rings.Placing.{Marked-take}
 use Rattle.hybrid_model.specs.Coherence.{Covered, Rounded, Served, Answered, IsForNext, AnswerCovered, AnswerIsFor, AtMostInterrupt, ClearIsOf, InOwnRing, IsOutside, IsPart, NotAhead, RequestIs, answers_to, asks, clears, is_live, is_posted, of_place, place_in, state_at, tid_in, Marked, Messages, OnlyOwn, Placed, OfProcess, InterruptIs}
-use Rattle.hybrid_model.specs.Linux.{fetch_request, new_service}
+use Rattle.hybrid_model.specs.Fetch.{fetch_request, new_service}
 use Rattle.hybrid_model.specs.Rings.{ring, with_ring}
 use Rattle.hybrid_model.specs.Sides.{Row, Round, Noted, Service, Caller, state_in, Side, no_service}
 use Rattle.hybrid_model.specs.Tallies.{Reads, with_at, sum_rings, EachRing, EachNumbered, if_same}

@@ -2,7 +2,7 @@
 use Rattle.hybrid_laws.proofs.maps.Reading.{first-of, reads-put, reads-stated}
 use Rattle.hybrid_laws.proofs.requests.Showing.{has_empty-take, shown-same}
 use Rattle.hybrid_model.specs.Coherence.{OfProcess, RequestIs}
-use Rattle.hybrid_model.specs.Linux.{fetch_request, new_service}
+use Rattle.hybrid_model.specs.Fetch.{fetch_request, new_service}
 use Rattle.hybrid_model.specs.Pairs.{ring_of}
 use Rattle.hybrid_model.specs.Rings.{ring, with_ring}
 use Rattle.hybrid_model.specs.Shown.{has_empty, status_by, status_in, shown_own, reply_code}

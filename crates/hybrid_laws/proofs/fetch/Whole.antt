@@ -10,9 +10,11 @@ use Rattle.hybrid_laws.proofs.states.Silent.{coherent-silent, turns-stay}
 use Rattle.hybrid_laws.proofs.states.Steps.{SimulatedPair, simulated-pair}
 use Rattle.hybrid_laws.proofs.states.Turns.{stated-other}
 use Rattle.hybrid_model.specs.Coherence.{OfProcess, RequestIs, goes_to_linux}
-use Rattle.hybrid_model.specs.Events.{after, fetch_from, may, may_here}
+use Rattle.hybrid_model.specs.Events.{after, may, may_here}
+use Rattle.hybrid_model.specs.Fetch.{fetch_from}
 use Rattle.hybrid_model.specs.Globals.{Coherent, ring_number, waits_or_held}
-use Rattle.hybrid_model.specs.Linux.{fetch_clear, fetch_empty, fetch_interrupt, fetch_message, fetch_request, fetch_row, is_ended_or_replied, marked_for_linux, new_service}
+use Rattle.hybrid_model.specs.Fetch.{fetch_clear, fetch_empty, fetch_interrupt, fetch_message, fetch_request, fetch_row, marked_for_linux, new_service}
+use Rattle.hybrid_model.specs.Workers.{is_ended_or_replied}
 use Rattle.hybrid_model.specs.Pairs.{Here, Pair, here, put_here}
 use Rattle.hybrid_model.specs.Rings.{ring, with_ring}
 use Rattle.hybrid_model.specs.Shown.{shown_own}

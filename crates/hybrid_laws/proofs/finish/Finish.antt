@@ -11,8 +11,10 @@ use Rattle.hybrid_laws.proofs.rings.Back.{Rounded-back, other-request}
 use Rattle.hybrid_laws.proofs.states.Simulated.{simulated-none}
 use Rattle.hybrid_laws.specs.Simulated.{Simulated}
 use Rattle.hybrid_model.specs.Coherence.{AnswerIsFor, Answered, FaultIsFor, IsAwaited, IsForNext, OfProcess, ReplyIsAwaited, Served, answers_to, calls_it, faults_of, is_live, is_posted, replies_to, service_at, state_at, tid_in}
-use Rattle.hybrid_model.specs.Events.{after_here, finish_here, may_here}
-use Rattle.hybrid_model.specs.Linux.{finish, has_pin, is_ended_request, may_finish}
+use Rattle.hybrid_model.specs.Events.{after_here, may_here}
+use Rattle.hybrid_model.specs.Finish.{finish_here}
+use Rattle.hybrid_model.specs.Finish.{finish, may_finish}
+use Rattle.hybrid_model.specs.Workers.{has_pin, is_ended_request}
 use Rattle.hybrid_model.specs.Pairs.{Here}
 use Rattle.hybrid_model.specs.Shown.{status_of}
 use Rattle.hybrid_model.specs.Sides.{Caller, Noted, Service, Side, no_service, serves, service_of, state_of}

@@ -6,9 +6,10 @@ use Rattle.hybrid_laws.proofs.states.Pair.{has-side}
 use Rattle.hybrid_laws.proofs.states.Silent.{coherent-silent, turns-stay}
 use Rattle.hybrid_laws.proofs.states.Steps.{SimulatedPair, simulated-pair}
 use Rattle.hybrid_model.specs.Coherence.{OfProcess}
-use Rattle.hybrid_model.specs.Events.{after, after_here, finish_here, may, may_here}
+use Rattle.hybrid_model.specs.Events.{after, after_here, may, may_here}
+use Rattle.hybrid_model.specs.Finish.{finish_here}
 use Rattle.hybrid_model.specs.Globals.{Coherent, ring_number, waits_or_held}
-use Rattle.hybrid_model.specs.Linux.{finish}
+use Rattle.hybrid_model.specs.Finish.{finish}
 use Rattle.hybrid_model.specs.Pairs.{Here, Pair, here}
 use Rattle.hybrid_model.specs.Sides.{Service, Side, no_service, service_of, state_in, state_of}
 use Rattle.kernel_model.specs.Nodes.{is_there}

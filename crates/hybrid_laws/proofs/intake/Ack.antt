@@ -16,8 +16,10 @@ use Rattle.hybrid_laws.specs.Simulated.{Simulated}
 use Rattle.hybrid_model.specs.Coherence.{OfProcess, Owns, acked, acks}
 use Rattle.hybrid_model.specs.Events.{after_here}
 use Rattle.hybrid_model.specs.Globals.{HeapHolds}
-use Rattle.hybrid_model.specs.Images.{image_here, image_of_intake}
-use Rattle.hybrid_model.specs.Lwk.{change_made_of, changed, intake, memory_here, round_over, set_break, space_here, take_ack}
+use Rattle.hybrid_model.specs.Images.{image_here}
+use Rattle.hybrid_model.specs.Intake.{image_of_intake}
+use Rattle.hybrid_model.specs.Intake.{change_made_of, changed, intake, round_over, take_ack}
+use Rattle.hybrid_model.specs.OneProcess.{memory_here, set_break, space_here}
 use Rattle.hybrid_model.specs.Pairs.{Here, with_side}
 use Rattle.hybrid_model.specs.Shown.{shown_born, shown_call, shown_here}
 use Rattle.hybrid_model.specs.Sides.{Round, Row, Side}

@@ -7,8 +7,8 @@ use Rattle.hybrid_laws.proofs.states.Simulated.{simulated-none}
 use Rattle.hybrid_laws.specs.Simulated.{Simulated}
 use Rattle.hybrid_model.specs.Coherence.{Answered, Directions, IsForNext, OfProcess, Rounded, Served, faulting, is_faulted, replies_to, state_at}
 use Rattle.hybrid_model.specs.Events.{after_here}
-use Rattle.hybrid_model.specs.Images.{image_of_intake}
-use Rattle.hybrid_model.specs.Lwk.{intake, take_fault}
+use Rattle.hybrid_model.specs.Intake.{image_of_intake}
+use Rattle.hybrid_model.specs.Intake.{intake, take_fault}
 use Rattle.hybrid_model.specs.Pairs.{Here}
 use Rattle.hybrid_model.specs.Shown.{shown_born, shown_here}
 use Rattle.hybrid_model.specs.Sides.{Caller, Noted, Service, Side}

@@ -8,7 +8,8 @@ use Rattle.hybrid_laws.specs.Simulated.{Simulated}
 use Rattle.hybrid_model.specs.Coherence.{OfProcess, goes_to_linux}
 use Rattle.hybrid_model.specs.Events.{after_here, may_here}
 use Rattle.hybrid_model.specs.Globals.{HeapHolds}
-use Rattle.hybrid_model.specs.Lwk.{intake, space_here}
+use Rattle.hybrid_model.specs.Intake.{intake}
+use Rattle.hybrid_model.specs.OneProcess.{space_here}
 use Rattle.hybrid_model.specs.Pairs.{Here}
 use Rattle.hybrid_model.specs.Sides.{Row, Side}
 use Rattle.hybrid_model.specs.Tallies.{Each, Reads}

@@ -12,8 +12,9 @@ use Rattle.hybrid_laws.proofs.states.Simulated.{simulated-one}
 use Rattle.hybrid_laws.specs.Simulated.{Simulated}
 use Rattle.hybrid_model.specs.Coherence.{Answered, CallHolds, IsAwaited, Marked, Messages, OnlyOwn, ReplyIsAwaited, calls_it, is_live, replies_to, state_at, tid_in, OfProcess, CallsAgree, Directions, Rounded, Served, place_in}
 use Rattle.hybrid_model.specs.Events.{after_here}
-use Rattle.hybrid_model.specs.Images.{image_here, caller_number, image_of_intake}
-use Rattle.hybrid_model.specs.Lwk.{take_reply, intake}
+use Rattle.hybrid_model.specs.Images.{image_here}
+use Rattle.hybrid_model.specs.Intake.{caller_number, image_of_intake}
+use Rattle.hybrid_model.specs.Intake.{take_reply, intake}
 use Rattle.hybrid_model.specs.Pairs.{Here}
 use Rattle.hybrid_model.specs.Shown.{shown_born, shown_call, shown_here, status_of}
 use Rattle.hybrid_model.specs.Sides.{Caller, Service, Side}

@@ -19,9 +19,11 @@ use Rattle.hybrid_laws.proofs.states.Turns.{holders-same}
 use Rattle.hybrid_model.specs.Coherence.{OfProcess}
 use Rattle.hybrid_model.specs.Events.{after, after_here}
 use Rattle.hybrid_model.specs.Globals.{CallsHold, Coherent, HeapHolds, StatusHolds, description_held, holders, ring_number, table_of}
-use Rattle.hybrid_model.specs.Images.{image_here, image_of_intake}
-use Rattle.hybrid_model.specs.Linux.{pipe_end}
-use Rattle.hybrid_model.specs.Lwk.{changed, intake, memory_here, round_over, set_break, space_here}
+use Rattle.hybrid_model.specs.Images.{image_here}
+use Rattle.hybrid_model.specs.Intake.{image_of_intake}
+use Rattle.hybrid_model.specs.Turns.{pipe_end}
+use Rattle.hybrid_model.specs.Intake.{changed, intake, round_over}
+use Rattle.hybrid_model.specs.OneProcess.{memory_here, set_break, space_here}
 use Rattle.hybrid_model.specs.Pairs.{Here, Pair, here, put_here, side_of, with_side}
 use Rattle.hybrid_model.specs.Shown.{shown_own, status_of}
 use Rattle.hybrid_model.specs.Sides.{Caller, Row, Side, service_of}

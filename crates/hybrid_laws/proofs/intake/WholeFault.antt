@@ -6,8 +6,8 @@ use Rattle.hybrid_laws.proofs.states.Silent.{coherent-silent, turns-stay}
 use Rattle.hybrid_laws.proofs.states.Steps.{AtMostOne, SimulatedPair, simulated-pair}
 use Rattle.hybrid_model.specs.Events.{after}
 use Rattle.hybrid_model.specs.Globals.{Coherent, ring_number}
-use Rattle.hybrid_model.specs.Images.{image_of_intake}
-use Rattle.hybrid_model.specs.Lwk.{intake, take_fault}
+use Rattle.hybrid_model.specs.Intake.{image_of_intake}
+use Rattle.hybrid_model.specs.Intake.{intake, take_fault}
 use Rattle.hybrid_model.specs.Pairs.{Here, Pair, here, put_here, side_of}
 use Rattle.hybrid_model.specs.Shown.{shown_own}
 use Rattle.hybrid_model.specs.Sides.{Side}

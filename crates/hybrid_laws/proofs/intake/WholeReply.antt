@@ -16,9 +16,10 @@ use Rattle.hybrid_laws.proofs.states.Steps.{AtMostOne, SimulatedPair, simulated-
 use Rattle.hybrid_model.specs.Coherence.{OfProcess}
 use Rattle.hybrid_model.specs.Events.{after, after_here}
 use Rattle.hybrid_model.specs.Globals.{Coherent, Sleeping, StatusHolds, description_held, holders, ring_number, is_number}
-use Rattle.hybrid_model.specs.Images.{caller_number, image_here, image_of_intake}
-use Rattle.hybrid_model.specs.Linux.{pipe_end}
-use Rattle.hybrid_model.specs.Lwk.{intake, take_reply, take_reply_of}
+use Rattle.hybrid_model.specs.Images.{image_here}
+use Rattle.hybrid_model.specs.Intake.{caller_number, image_of_intake}
+use Rattle.hybrid_model.specs.Turns.{pipe_end}
+use Rattle.hybrid_model.specs.Intake.{intake, take_reply, take_reply_of}
 use Rattle.hybrid_model.specs.Pairs.{Here, Pair, here, put_here, side_of}
 use Rattle.hybrid_model.specs.Shown.{shown_own, status_of}
 use Rattle.hybrid_model.specs.Sides.{Caller, Side, service_of}

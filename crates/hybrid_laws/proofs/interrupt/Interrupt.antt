@@ -16,8 +16,8 @@ use Rattle.hybrid_laws.specs.OneProcess.{NodeHolds, RingsHold}
 use Rattle.hybrid_laws.specs.Simulated.{Simulated}
 use Rattle.hybrid_model.specs.Coherence.{AnswerCovered, AnswerIsFor, Answered, CallHolds, CallsAgree, ClearIsOf, InterruptIs, IsOutside, Marked, NotAhead, OfProcess, ReplyIsAwaited, RequestIs, answers_to, asks, calls_it, clears, goes_to_linux, interrupts_of, place_in, service_at, tid_in}
 use Rattle.hybrid_model.specs.Events.{after_here, may_here}
-use Rattle.hybrid_model.specs.Images.{image_of_interrupt}
-use Rattle.hybrid_model.specs.Lwk.{caller_at, interrupt_as, is_calling, no_caller, post_interrupt}
+use Rattle.hybrid_model.specs.Interrupt.{image_of_interrupt}
+use Rattle.hybrid_model.specs.Interrupt.{caller_at, interrupt_as, is_calling, no_caller, post_interrupt}
 use Rattle.hybrid_model.specs.Pairs.{Here, ring_of}
 use Rattle.hybrid_model.specs.Rings.{post}
 use Rattle.hybrid_model.specs.Shown.{reply_code, shown_born, shown_call, shown_here, status_in, status_of}

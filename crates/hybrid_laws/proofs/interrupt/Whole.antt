@@ -21,9 +21,9 @@ use Rattle.hybrid_laws.proofs.trap.Begins.{ring-there}
 use Rattle.hybrid_model.specs.Coherence.{OfProcess}
 use Rattle.hybrid_model.specs.Events.{after, may, may_here}
 use Rattle.hybrid_model.specs.Globals.{CallsHold, Coherent, Sleeping, StatusHolds, description_held, holders, is_number, ring_number}
-use Rattle.hybrid_model.specs.Images.{image_of_interrupt}
-use Rattle.hybrid_model.specs.Linux.{pipe_end}
-use Rattle.hybrid_model.specs.Lwk.{interrupt_as, is_calling, no_caller, post_interrupt}
+use Rattle.hybrid_model.specs.Interrupt.{image_of_interrupt}
+use Rattle.hybrid_model.specs.Turns.{pipe_end}
+use Rattle.hybrid_model.specs.Interrupt.{interrupt_as, is_calling, no_caller, post_interrupt}
 use Rattle.hybrid_model.specs.Pairs.{Here, Pair, here, put_here, ring_of, side_of}
 use Rattle.hybrid_model.specs.Rings.{post}
 use Rattle.hybrid_model.specs.Shown.{reply_code, shown_own, status_in, status_of}

@@ -10,7 +10,7 @@ use Rattle.hybrid_model.specs.Claims.{NoAddedStall}
 use Rattle.hybrid_model.specs.Events.{may, may_here, of_line, process_of_event}
 use Rattle.hybrid_model.specs.Globals.{Coherent}
 use Rattle.hybrid_model.specs.Journals.{IsOver}
-use Rattle.hybrid_model.specs.Lwk.{caller_at}
+use Rattle.hybrid_model.specs.Interrupt.{caller_at}
 use Rattle.hybrid_model.specs.Pairs.{Pair, here, side_of}
 use Rattle.hybrid_model.specs.Shown.{has_empty, one, reply_code, shown_call, shown_own, status_in, status_of}
 use Rattle.hybrid_model.specs.Sides.{Caller, Side, call_in, new_side, service_of}

@@ -11,8 +11,20 @@ use Rattle.hybrid_model.specs.Coherence.{OfProcess, acked, acks, answers_to, ask
 use Rattle.hybrid_model.specs.Events.{may, may_here, process_of_event}
 use Rattle.hybrid_model.specs.Globals.{Coherent, ring_number, waits_or_held}
 use Rattle.hybrid_model.specs.Journals.{IsOver}
-use Rattle.hybrid_model.specs.Linux.{clear_in, has_pin, holds, is_copied, is_ended_or_replied, is_ended_request, is_free_to_act, is_held, is_parked, is_turn_for, is_uncopied, kind_for, may_act, may_assign, may_copy, may_finish, may_miss, may_park, may_pin, may_take_turn, may_unpin, no_pin_in, other_has_turn, pipe_end, row_for}
-use Rattle.hybrid_model.specs.Lwk.{may_answer, no_caller, noted_may_be_answered}
+use Rattle.hybrid_model.specs.AckClear.{clear_in, no_pin_in}
+use Rattle.hybrid_model.specs.Act.{may_act}
+use Rattle.hybrid_model.specs.Assign.{may_assign}
+use Rattle.hybrid_model.specs.Copy.{is_uncopied, may_copy}
+use Rattle.hybrid_model.specs.Finish.{may_finish}
+use Rattle.hybrid_model.specs.Miss.{may_miss}
+use Rattle.hybrid_model.specs.Park.{may_park}
+use Rattle.hybrid_model.specs.Pin.{may_pin}
+use Rattle.hybrid_model.specs.Turns.{is_turn_for, other_has_turn, pipe_end}
+use Rattle.hybrid_model.specs.Unpark.{may_take_turn}
+use Rattle.hybrid_model.specs.Unpin.{is_copied, may_unpin}
+use Rattle.hybrid_model.specs.Workers.{has_pin, holds, is_ended_or_replied, is_ended_request, is_free_to_act, is_held, is_parked, kind_for, row_for}
+use Rattle.hybrid_model.specs.Answer.{may_answer, noted_may_be_answered}
+use Rattle.hybrid_model.specs.Interrupt.{no_caller}
 use Rattle.hybrid_model.specs.Pairs.{Pair, here, side_of}
 use Rattle.hybrid_model.specs.Rings.{all_empty, ring}
 use Rattle.hybrid_model.specs.Sides.{Caller, Noted, Round, Row, Side, Turn, serves, service_of, state_in, state_of}

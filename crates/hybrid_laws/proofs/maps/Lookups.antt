@@ -2,7 +2,7 @@
 use Rattle.std.specs.FinMap as finmap
 use Rattle.std.specs.FinMap.Entries as fin
 use Rattle.hybrid_laws.proofs.memory.Written.{each-entry}
-use Rattle.hybrid_model.specs.Lwk.{caller_of}
+use Rattle.hybrid_model.specs.Intake.{caller_of}
 use Rattle.hybrid_model.specs.Sides.{Caller}
 use Rattle.hybrid_model.specs.Tallies.{Each}
 use Rattle.mck_word.specs.Maps.{Map, at, entries, some_row}

@@ -5,7 +5,7 @@ use Rattle.hybrid_model.specs.Claims.{AnswersOther, HandsOutFresh, IsFresh, Unre
 use Rattle.hybrid_model.specs.Coherence.{AnswerCovered}
 use Rattle.hybrid_model.specs.Events.{after}
 use Rattle.hybrid_model.specs.Globals.{Coherent, Rising, copies, table_of}
-use Rattle.hybrid_model.specs.Lwk.{space_here}
+use Rattle.hybrid_model.specs.OneProcess.{space_here}
 use Rattle.hybrid_model.specs.Pairs.{Pair, here, side_of}
 use Rattle.hybrid_model.specs.Sides.{Row, Side}
 use Rattle.hybrid_model.specs.Spaces.{Space, after_effect, drop_page, frame_bytes}

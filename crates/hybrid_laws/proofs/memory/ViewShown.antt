@@ -3,7 +3,7 @@ use Rattle.kernel_model.specs.Steps as Steps
 use Rattle.hybrid_laws.proofs.memory.Shapes.{shown-back, stored_all-rights}
 use Rattle.hybrid_laws.proofs.node.Keeps.{is_pinned}
 use Rattle.hybrid_laws.proofs.run.Run.{TableApart}
-use Rattle.hybrid_model.specs.Lwk.{memory_here, with_view}
+use Rattle.hybrid_model.specs.OneProcess.{memory_here, with_view}
 use Rattle.hybrid_model.specs.Pairs.{Here}
 use Rattle.hybrid_model.specs.Shown.{shown_call, shown_here}
 use Rattle.kernel_model.specs.Nodes.{Node, Thread}

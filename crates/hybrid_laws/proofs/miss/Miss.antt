@@ -13,8 +13,11 @@ use Rattle.hybrid_laws.proofs.rings.InRings.{in_rings, rings-back}
 use Rattle.hybrid_laws.proofs.states.Simulated.{simulated-none}
 use Rattle.hybrid_laws.specs.Simulated.{Simulated}
 use Rattle.hybrid_model.specs.Coherence.{FaultIsFor, OfProcess, Served, faults_of, service_at}
-use Rattle.hybrid_model.specs.Events.{after_here, may_here, miss}
-use Rattle.hybrid_model.specs.Linux.{is_free_to_act, kind_for, may_miss, row_for, turn_given_up}
+use Rattle.hybrid_model.specs.Events.{after_here, may_here}
+use Rattle.hybrid_model.specs.Miss.{miss}
+use Rattle.hybrid_model.specs.Miss.{may_miss}
+use Rattle.hybrid_model.specs.Turns.{turn_given_up}
+use Rattle.hybrid_model.specs.Workers.{is_free_to_act, kind_for, row_for}
 use Rattle.hybrid_model.specs.Pairs.{Here}
 use Rattle.hybrid_model.specs.Shown.{has_empty, serves_it, status_of}
 use Rattle.hybrid_model.specs.Sides.{Noted, Service, service_of, with_state}

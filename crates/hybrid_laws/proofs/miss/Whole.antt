@@ -7,9 +7,10 @@ use Rattle.hybrid_laws.proofs.states.Silent.{coherent-silent}
 use Rattle.hybrid_laws.proofs.states.Steps.{SimulatedPair, simulated-pair}
 use Rattle.hybrid_laws.proofs.states.Turns.{stated-other, turns-given-up}
 use Rattle.hybrid_model.specs.Coherence.{OfProcess}
-use Rattle.hybrid_model.specs.Events.{after, after_here, may, may_here, miss}
+use Rattle.hybrid_model.specs.Events.{after, after_here, may, may_here}
+use Rattle.hybrid_model.specs.Miss.{miss}
 use Rattle.hybrid_model.specs.Globals.{Coherent, ring_number, waits_or_held}
-use Rattle.hybrid_model.specs.Linux.{turn_given_up}
+use Rattle.hybrid_model.specs.Turns.{turn_given_up}
 use Rattle.hybrid_model.specs.Pairs.{Here, Pair, here}
 use Rattle.hybrid_model.specs.Sides.{Side, Turn, state_in}
 use Rattle.kernel_model.specs.Nodes.{is_there}

@@ -2,7 +2,8 @@
 use Rattle.file_model.specs.Files.{close_all}
 use Rattle.hybrid_laws.proofs.node.Keeps.{Keeps, Keeps-same, ThreadKeeps, thread-same}
 use Rattle.hybrid_laws.proofs.node.Primitives.{change-free, change-heap, change-quiet, dies-keeps, drop_ignored-keeps, either, for_process-keeps, put-new, row-gone, same-node, taken-keeps, then, with_action-keeps}
-use Rattle.hybrid_model.specs.Lwk.{run_for, set_break}
+use Rattle.hybrid_model.specs.OneProcess.{set_break}
+use Rattle.hybrid_model.specs.Run.{run_for}
 use Rattle.isa_model.specs.Instr.{Outcome, instr}
 use Rattle.isa_model.specs.Memory.{may_access}
 use Rattle.isa_model.specs.declared.stops.Stop.TheVariants.{Break, Ecall, Illegal, Misaligned, On, Fault as StopFault}

@@ -15,10 +15,16 @@ use Rattle.hybrid_laws.proofs.rings.Back.{other-request}
 use Rattle.hybrid_laws.proofs.states.Simulated.{simulated-one}
 use Rattle.hybrid_laws.specs.Simulated.{Simulated}
 use Rattle.hybrid_model.specs.Coherence.{AnswerIsFor, FaultIsFor, IsForNext, OfProcess, Served, answers_to, faults_of}
-use Rattle.hybrid_model.specs.Events.{after_here, may_here, park_here, give_up_turn, with_linux}
-use Rattle.hybrid_model.specs.Images.{image_here, image_of_park}
-use Rattle.hybrid_model.specs.Linux.{files_if, is_free_to_act, kind_for, may_park, park_blocks, park_stops, turn_given_up, parks}
-use Rattle.hybrid_model.specs.Lwk.{thread_served}
+use Rattle.hybrid_model.specs.Events.{after_here, may_here}
+use Rattle.hybrid_model.specs.Park.{park_here}
+use Rattle.hybrid_model.specs.Turns.{give_up_turn}
+use Rattle.hybrid_model.specs.Workers.{with_linux}
+use Rattle.hybrid_model.specs.Images.{image_here}
+use Rattle.hybrid_model.specs.Park.{image_of_park}
+use Rattle.hybrid_model.specs.Park.{files_if, may_park, park_blocks, park_stops, parks}
+use Rattle.hybrid_model.specs.Turns.{turn_given_up}
+use Rattle.hybrid_model.specs.Workers.{is_free_to_act, kind_for}
+use Rattle.hybrid_model.specs.Answer.{thread_served}
 use Rattle.hybrid_model.specs.Pairs.{Here, with_side, with_node}
 use Rattle.hybrid_model.specs.Shown.{shown_born, shown_call, shown_here, status_of}
 use Rattle.hybrid_model.specs.Sides.{Noted, Service, Side, service_of, with_service, with_state, Book, LinuxSide, Caller}

@@ -16,9 +16,9 @@ use Rattle.hybrid_laws.specs.CallSteps.{Carries}
 use Rattle.hybrid_model.specs.Coherence.{OfProcess}
 use Rattle.hybrid_model.specs.Events.{after, may, may_here}
 use Rattle.hybrid_model.specs.Globals.{Coherent, StatusHolds, description_held, ring_number, waits_or_held}
-use Rattle.hybrid_model.specs.Images.{image_of_park}
-use Rattle.hybrid_model.specs.Linux.{files_if}
-use Rattle.hybrid_model.specs.Lwk.{thread_served}
+use Rattle.hybrid_model.specs.Park.{image_of_park}
+use Rattle.hybrid_model.specs.Park.{files_if}
+use Rattle.hybrid_model.specs.Answer.{thread_served}
 use Rattle.hybrid_model.specs.Pairs.{Here, Pair, here, put_here}
 use Rattle.hybrid_model.specs.Shown.{shown_own}
 use Rattle.hybrid_model.specs.Sides.{Service, Side, no_service, served, service_of, state_in, state_of}

@@ -9,7 +9,8 @@ use Rattle.hybrid_laws.proofs.states.Simulated.{simulated-none}
 use Rattle.hybrid_laws.specs.Simulated.{Simulated}
 use Rattle.hybrid_model.specs.Coherence.{Covers, OfProcess, PinServes, acked_at, is_faulted, state_at, taken_at}
 use Rattle.hybrid_model.specs.Events.{after_here, may_here}
-use Rattle.hybrid_model.specs.Linux.{is_free_to_act, kind_for, may_pin, pin, pinned, row_for}
+use Rattle.hybrid_model.specs.Pin.{may_pin, pin, pinned}
+use Rattle.hybrid_model.specs.Workers.{is_free_to_act, kind_for, row_for}
 use Rattle.hybrid_model.specs.Pairs.{Here, with_side}
 use Rattle.hybrid_model.specs.Shown.{shown_here}
 use Rattle.hybrid_model.specs.Sides.{LinuxSide, Round, Row, looked_up, service_of, state_in}

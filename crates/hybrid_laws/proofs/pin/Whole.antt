@@ -8,7 +8,7 @@ use Rattle.hybrid_laws.proofs.states.Steps.{SimulatedPair, simulated-pair}
 use Rattle.hybrid_model.specs.Coherence.{OfProcess}
 use Rattle.hybrid_model.specs.Events.{after, after_here, may, may_here}
 use Rattle.hybrid_model.specs.Globals.{Coherent, ring_number}
-use Rattle.hybrid_model.specs.Linux.{pin}
+use Rattle.hybrid_model.specs.Pin.{pin}
 use Rattle.hybrid_model.specs.Pairs.{Here, Pair, here}
 use Rattle.hybrid_model.specs.Shown.{shown_own}
 use Rattle.hybrid_model.specs.Sides.{LinuxSide, Service, Side, service_of}

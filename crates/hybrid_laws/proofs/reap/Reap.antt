@@ -17,7 +17,7 @@ use Rattle.hybrid_laws.proofs.states.Simulated.{simulated-one}
 use Rattle.hybrid_laws.specs.Simulated.{Simulated}
 use Rattle.hybrid_model.specs.Coherence.{AnswerCovered, InterruptIs, OfProcess, OnlyOwn, Owned, Placed, calls_it, holder, is_live, service_at, state_at, tid_in}
 use Rattle.hybrid_model.specs.Events.{after_here, may_here}
-use Rattle.hybrid_model.specs.Lwk.{may_reap, reap}
+use Rattle.hybrid_model.specs.Reap.{may_reap, reap}
 use Rattle.hybrid_model.specs.Pairs.{Here}
 use Rattle.hybrid_model.specs.Rings.{all_empty}
 use Rattle.hybrid_model.specs.Shown.{shown_born, shown_call, shown_here}

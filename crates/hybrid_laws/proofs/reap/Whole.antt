@@ -18,8 +18,8 @@ use Rattle.hybrid_laws.proofs.trap.Goes.{NodeSteps}
 use Rattle.hybrid_laws.specs.CallSteps.{Carries}
 use Rattle.hybrid_model.specs.Events.{after, may, may_here}
 use Rattle.hybrid_model.specs.Globals.{Coherent, Empty, copies, holders, ring_number, table_of}
-use Rattle.hybrid_model.specs.Linux.{end_of_found, end_of_target, pipe_end}
-use Rattle.hybrid_model.specs.Lwk.{emptied, reap}
+use Rattle.hybrid_model.specs.Turns.{end_of_found, end_of_target, pipe_end}
+use Rattle.hybrid_model.specs.Reap.{emptied, reap}
 use Rattle.hybrid_model.specs.Pairs.{Here, Pair, here, side_of}
 use Rattle.hybrid_model.specs.Sides.{Noted, Row, Side, Turn, new_side, service_of}
 use Rattle.hybrid_model.specs.Spaces.{freed}

@@ -3,7 +3,7 @@ use Rattle.hybrid_laws.proofs.maps.Reading.{Each-where, EachRing-where, reads-pu
 use Rattle.hybrid_laws.proofs.requests.OneRequest.{goes_on}
 use Rattle.hybrid_laws.proofs.requests.Requests.{IsForNext-keeps, PinServes-keeps}
 use Rattle.hybrid_model.specs.Coherence.{AnswerIsFor, FaultIsFor, IsForNext, PinServes, Served, answers_to, faults_of, holder, is_faulted, is_fetched, is_live, is_posted, is_waiting, service_at, state_at, OfProcess}
-use Rattle.hybrid_model.specs.Linux.{state_if}
+use Rattle.hybrid_model.specs.Workers.{state_if}
 use Rattle.hybrid_model.specs.Sides.{Noted, Service, Side, service_of, with_service, with_state}
 use Rattle.hybrid_model.specs.Tallies.{Reads, counted, sum_rings, tally, with_at}
 use Rattle.ikc_ring.specs.declared.Call.{Call}

@@ -1,6 +1,6 @@
 -- From the tests of an event to the request that its worker serves.
 use Rattle.hybrid_laws.proofs.maps.Tests.{both, no-none, some-is}
-use Rattle.hybrid_model.specs.Linux.{has_pin, holds, is_ended_request, is_free_to_act, is_parked, is_held}
+use Rattle.hybrid_model.specs.Workers.{has_pin, holds, is_ended_request, is_free_to_act, is_parked, is_held}
 use Rattle.hybrid_model.specs.Sides.{Book, LinuxSide, state_of, serves}
 use Rattle.ikc_ring.specs.declared.Call.{Call}
 use Rattle.mck_word.specs.Maps.{at}

@@ -1,7 +1,7 @@
 -- Where one live request shows something else, one call of the process does: that of the thread which the book names.
 use Rattle.hybrid_laws.proofs.requests.Showing.{calls-put}
 use Rattle.hybrid_model.specs.Coherence.{OfProcess, calls_it, is_live}
-use Rattle.hybrid_model.specs.Lwk.{thread_served}
+use Rattle.hybrid_model.specs.Answer.{thread_served}
 use Rattle.hybrid_model.specs.Shown.{shown_call, status_of}
 use Rattle.hybrid_model.specs.Sides.{Caller, Side, call_in, call_of}
 use Rattle.ikc_ring.specs.declared.Call.{Call}

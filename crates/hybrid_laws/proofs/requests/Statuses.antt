@@ -1,7 +1,7 @@
 -- The statuses of the calls where one request gets another state and service, and maybe loses or gets its worker.
 use Rattle.hybrid_laws.proofs.maps.Reading.{reads-stated}
 use Rattle.hybrid_laws.proofs.requests.Showing.{has_empty-same}
-use Rattle.hybrid_model.specs.Linux.{answer_if, state_if, stepped_service}
+use Rattle.hybrid_model.specs.Workers.{answer_if, state_if, stepped_service}
 use Rattle.hybrid_model.specs.Shown.{has_empty, reply_code, serves_it, status_in, status_of}
 use Rattle.hybrid_model.specs.Sides.{Row, Service, Side, call_in, service_of, state_in, with_state}
 use Rattle.ikc_ring.specs.declared.Call.{Call}

@@ -8,7 +8,8 @@ use Rattle.hybrid_laws.proofs.node.Threads.{IsThread, counted-deliverable, count
 use Rattle.hybrid_laws.specs.Simulated.{Simulated, steps_after, steps_may}
 use Rattle.hybrid_model.specs.Coherence.{OfProcess}
 use Rattle.hybrid_model.specs.Events.{after_here, may_here}
-use Rattle.hybrid_model.specs.Lwk.{left_of_limit, length_of_run, may_run_for, memory_here, ran, run, run_for}
+use Rattle.hybrid_model.specs.OneProcess.{memory_here}
+use Rattle.hybrid_model.specs.Run.{left_of_limit, length_of_run, may_run_for, ran, run, run_for}
 use Rattle.hybrid_model.specs.Pairs.{Here}
 use Rattle.hybrid_model.specs.Shown.{shown_born, shown_call, shown_here}
 use Rattle.hybrid_model.specs.Sides.{Row, Side}

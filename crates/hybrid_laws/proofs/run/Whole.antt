@@ -16,8 +16,9 @@ use Rattle.hybrid_laws.proofs.states.Quiet.{own-frames}
 use Rattle.hybrid_laws.specs.Stopped.{stops}
 use Rattle.hybrid_model.specs.Events.{after, may, may_here}
 use Rattle.hybrid_model.specs.Globals.{Coherent, Sleeping, holders, ring_number}
-use Rattle.hybrid_model.specs.Linux.{pipe_end}
-use Rattle.hybrid_model.specs.Lwk.{memory_here, run, run_for}
+use Rattle.hybrid_model.specs.Turns.{pipe_end}
+use Rattle.hybrid_model.specs.OneProcess.{memory_here}
+use Rattle.hybrid_model.specs.Run.{run, run_for}
 use Rattle.hybrid_model.specs.Pairs.{Here, Pair, here, side_of}
 use Rattle.hybrid_model.specs.Sides.{service_of}
 use Rattle.hybrid_model.specs.Tallies.{Each, as_number, if_same, tally}

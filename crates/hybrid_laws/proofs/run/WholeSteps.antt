@@ -12,7 +12,8 @@ use Rattle.hybrid_laws.specs.Simulated.{steps_after, steps_may}
 use Rattle.hybrid_model.specs.Events.{after_here, may, may_here}
 use Rattle.hybrid_model.specs.Globals.{Coherent}
 use Rattle.hybrid_model.specs.Images.{image_here}
-use Rattle.hybrid_model.specs.Lwk.{length_of_run, memory_here, ran, run}
+use Rattle.hybrid_model.specs.OneProcess.{memory_here}
+use Rattle.hybrid_model.specs.Run.{length_of_run, ran, run}
 use Rattle.hybrid_model.specs.Pairs.{Here, Pair, here}
 use Rattle.hybrid_model.specs.Shown.{one, shown_call, shown_here}
 use Rattle.isa_model.specs.Instr.{Outcome, instr}

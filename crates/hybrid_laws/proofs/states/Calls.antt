@@ -6,7 +6,7 @@ use Rattle.hybrid_laws.proofs.states.Pair.{has-side}
 use Rattle.hybrid_laws.specs.CallSteps.{Carries, FoundHeld, calls_at, holds_it}
 use Rattle.hybrid_model.specs.Coherence.{OfProcess, is_live}
 use Rattle.hybrid_model.specs.Globals.{CallsHold, Coherent, IsUnderWay, StatusHolds, description_held, holders, is_number, ring_number, waits_or_held}
-use Rattle.hybrid_model.specs.Linux.{end_of_found, end_of_target, is_turn_for, pipe_end}
+use Rattle.hybrid_model.specs.Turns.{end_of_found, end_of_target, is_turn_for, pipe_end}
 use Rattle.hybrid_model.specs.Pairs.{Pair, side_of}
 use Rattle.hybrid_model.specs.Shown.{has_empty, reply_code, status_in, status_of}
 use Rattle.hybrid_model.specs.Sides.{Caller, Service, Side, Turn, call_in, new_side, service_of, state_in, state_of}

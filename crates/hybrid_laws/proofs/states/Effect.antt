@@ -10,7 +10,7 @@ use Rattle.hybrid_laws.proofs.node.Threads.{process-changed}
 use Rattle.hybrid_laws.proofs.states.Quiet.{own-frames}
 use Rattle.hybrid_laws.specs.OneProcess.{with_table}
 use Rattle.hybrid_model.specs.Globals.{Coherent, Frames, HeapHolds, table_of, copies}
-use Rattle.hybrid_model.specs.Lwk.{set_break, space_here}
+use Rattle.hybrid_model.specs.OneProcess.{set_break, space_here}
 use Rattle.hybrid_model.specs.Pairs.{Pair, here, side_of}
 use Rattle.hybrid_model.specs.Shown.{shown_call, shown_own}
 use Rattle.hybrid_model.specs.Sides.{Row, Side, new_side}

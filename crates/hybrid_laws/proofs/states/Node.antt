@@ -8,7 +8,7 @@ use Rattle.hybrid_laws.specs.OneProcess.{with_table}
 use Rattle.hybrid_laws.specs.Stopped.{stops}
 use Rattle.hybrid_model.specs.Coherence.{OfProcess}
 use Rattle.hybrid_model.specs.Globals.{CallsHold, Coherent, Empty, Frames, TurnsHold, copies, holders, ring_number, table_of, waits_or_held}
-use Rattle.hybrid_model.specs.Linux.{pipe_end}
+use Rattle.hybrid_model.specs.Turns.{pipe_end}
 use Rattle.hybrid_model.specs.Pairs.{Pair, side_of}
 use Rattle.hybrid_model.specs.Sides.{Row, Side, Turn, new_side, service_of, state_of}
 use Rattle.hybrid_model.specs.Tallies.{Reads}

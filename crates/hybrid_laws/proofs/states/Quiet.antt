@@ -11,7 +11,7 @@ use Rattle.hybrid_laws.proofs.trap.Forks.{written-other}
 use Rattle.hybrid_laws.specs.OneProcess.{with_table}
 use Rattle.hybrid_model.specs.Coherence.{OfProcess}
 use Rattle.hybrid_model.specs.Globals.{Coherent, Frames, Sleeping, holders, ring_number, table_of}
-use Rattle.hybrid_model.specs.Linux.{pipe_end}
+use Rattle.hybrid_model.specs.Turns.{pipe_end}
 use Rattle.hybrid_model.specs.Pairs.{Pair, side_of}
 use Rattle.hybrid_model.specs.Shown.{shown_call, shown_own}
 use Rattle.hybrid_model.specs.Sides.{Row, Side, new_side, service_of}

@@ -4,7 +4,7 @@ use Rattle.hybrid_laws.proofs.states.Pair.{coherent-after, held-after, of-sides,
 use Rattle.hybrid_laws.proofs.states.Turns.{holders-same}
 use Rattle.hybrid_model.specs.Coherence.{OfProcess}
 use Rattle.hybrid_model.specs.Globals.{Coherent, TurnsHold, description_held, holders, ring_number, waits_or_held, CallsHold, StatusHolds}
-use Rattle.hybrid_model.specs.Linux.{pipe_end}
+use Rattle.hybrid_model.specs.Turns.{pipe_end}
 use Rattle.hybrid_model.specs.Pairs.{Pair, side_of}
 use Rattle.hybrid_model.specs.Shown.{shown_call, shown_own, status_of}
 use Rattle.hybrid_model.specs.Sides.{Caller, Side, Turn, service_of, state_of}

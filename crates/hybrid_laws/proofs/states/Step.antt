@@ -7,7 +7,7 @@ use Rattle.hybrid_laws.proofs.states.Turns.{turns-given-up}
 use Rattle.hybrid_laws.specs.CallSteps.{Carries, FoundHeld}
 use Rattle.hybrid_model.specs.Coherence.{OfProcess}
 use Rattle.hybrid_model.specs.Globals.{Coherent, IsUnderWay, StatusHolds, description_held, ring_number, waits_or_held}
-use Rattle.hybrid_model.specs.Linux.{turn_given_up}
+use Rattle.hybrid_model.specs.Turns.{turn_given_up}
 use Rattle.hybrid_model.specs.Pairs.{Pair, side_of}
 use Rattle.hybrid_model.specs.Shown.{status_of}
 use Rattle.hybrid_model.specs.Sides.{Side, Turn, service_of, state_of}

@@ -4,7 +4,7 @@ use Rattle.hybrid_laws.proofs.maps.Tests.{both}
 use Rattle.hybrid_laws.proofs.maps.Totals.{entries-same}
 use Rattle.hybrid_laws.proofs.states.Pair.{pair_after, side-other, side-own}
 use Rattle.hybrid_model.specs.Globals.{Coherent, TurnHolds, TurnsHold, description_held, holders, waits_or_held, is_number}
-use Rattle.hybrid_model.specs.Linux.{is_turn_for, pipe_end, turn_given_up, without_turn}
+use Rattle.hybrid_model.specs.Turns.{is_turn_for, pipe_end, turn_given_up, without_turn}
 use Rattle.hybrid_model.specs.Pairs.{Pair, side_of}
 use Rattle.hybrid_model.specs.Shown.{status_of}
 use Rattle.hybrid_model.specs.Sides.{Caller, Side, Turn, service_of, state_of, stated}

@@ -8,8 +8,9 @@ use Rattle.hybrid_laws.proofs.trap.Call.{keeps_begin_call}
 use Rattle.hybrid_laws.proofs.trap.CallShown.{calls_begin}
 use Rattle.hybrid_laws.specs.OneProcess.{NodeHolds, RingsHold}
 use Rattle.hybrid_model.specs.Coherence.{OfProcess}
-use Rattle.hybrid_model.specs.Linux.{first_progress, phases_in}
-use Rattle.hybrid_model.specs.Lwk.{begin_call, memory_here, trapped, view_here, call_made}
+use Rattle.hybrid_model.specs.Fetch.{first_progress, phases_in}
+use Rattle.hybrid_model.specs.OneProcess.{memory_here, view_here}
+use Rattle.hybrid_model.specs.Trap.{begin_call, trapped, call_made}
 use Rattle.hybrid_model.specs.Pairs.{Here, ring_of}
 use Rattle.hybrid_model.specs.Shown.{shown_born, shown_call, shown_here}
 use Rattle.hybrid_model.specs.Sides.{Side}

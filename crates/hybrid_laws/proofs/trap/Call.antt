@@ -6,7 +6,7 @@ use Rattle.hybrid_laws.proofs.node.Primitives.{then}
 use Rattle.hybrid_laws.proofs.trap.BeginCall.{answered_call, covered-call, rounded-call, served_call}
 use Rattle.hybrid_laws.proofs.trap.Posted.{IsGiven, Messages-request}
 use Rattle.hybrid_model.specs.Coherence.{OfProcess, Owned, CallsAgree, Marked, RequestIs, interrupts_of, service_at, is_fetched, state_at, InterruptIs, goes_to_linux, place_in, tid_in}
-use Rattle.hybrid_model.specs.Lwk.{begin_call}
+use Rattle.hybrid_model.specs.Trap.{begin_call}
 use Rattle.hybrid_model.specs.Rings.{post}
 use Rattle.hybrid_model.specs.Sides.{Side, Round, Caller}
 use Rattle.hybrid_model.specs.Tallies.{Reads, with_at, tally, Each, sum_rings, EachRing, as_number}

@@ -2,8 +2,8 @@
 use Rattle.hybrid_laws.proofs.maps.Reading.{reads-put}
 use Rattle.hybrid_laws.proofs.requests.Showing.{has_empty-post}
 use Rattle.hybrid_model.specs.Coherence.{OfProcess}
-use Rattle.hybrid_model.specs.Linux.{first_progress}
-use Rattle.hybrid_model.specs.Lwk.{begin_call}
+use Rattle.hybrid_model.specs.Fetch.{first_progress}
+use Rattle.hybrid_model.specs.Trap.{begin_call}
 use Rattle.hybrid_model.specs.Rings.{post}
 use Rattle.hybrid_model.specs.Shown.{status_by, status_of, status_in, shown_call, reply_code}
 use Rattle.hybrid_model.specs.Sides.{Side, Caller, no_service, state_in, call_in}

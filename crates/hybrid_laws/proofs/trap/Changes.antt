@@ -12,7 +12,8 @@ use Rattle.hybrid_laws.proofs.trap.Begins.{Traps}
 use Rattle.hybrid_laws.proofs.trap.DecideSays.{DecisionSays, NowSays, decide-says}
 use Rattle.hybrid_laws.specs.OneProcess.{FramesOf}
 use Rattle.hybrid_model.specs.Coherence.{AnswerCovered, Covered, Covers, Includes, OfProcess}
-use Rattle.hybrid_model.specs.Lwk.{memory_here, set_break, space_here, trapped, view_here}
+use Rattle.hybrid_model.specs.OneProcess.{memory_here, set_break, space_here, view_here}
+use Rattle.hybrid_model.specs.Trap.{trapped}
 use Rattle.hybrid_model.specs.Pairs.{Here}
 use Rattle.hybrid_model.specs.Shown.{shown_born, shown_call, shown_here}
 use Rattle.hybrid_model.specs.Sides.{Row, Side}

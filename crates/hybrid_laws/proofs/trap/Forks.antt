@@ -15,7 +15,8 @@ use Rattle.hybrid_laws.proofs.trap.Says.{ForkSays}
 use Rattle.hybrid_laws.specs.OneProcess.{FramesOf, with_table}
 use Rattle.hybrid_model.specs.Coherence.{OfProcess}
 use Rattle.hybrid_model.specs.Globals.{Frames}
-use Rattle.hybrid_model.specs.Lwk.{memory_here, space_here, trapped, view_here}
+use Rattle.hybrid_model.specs.OneProcess.{memory_here, space_here, view_here}
+use Rattle.hybrid_model.specs.Trap.{trapped}
 use Rattle.hybrid_model.specs.Pairs.{Here}
 use Rattle.hybrid_model.specs.Shown.{shown_call, shown_here}
 use Rattle.hybrid_model.specs.Sides.{Row, Side, new_side, no_lwk}

@@ -19,7 +19,8 @@ use Rattle.hybrid_laws.proofs.trap.WholeChanges.{coherent_trap_changes}
 use Rattle.hybrid_model.specs.Claims.{HandsOutFresh, IsFresh}
 use Rattle.hybrid_model.specs.Events.{after, may, may_here}
 use Rattle.hybrid_model.specs.Globals.{Coherent, copies, table_of}
-use Rattle.hybrid_model.specs.Lwk.{after_trap, begin_call, child_side, memory_here, ran_last, space_here, trapped, view_here, with_stores, with_view}
+use Rattle.hybrid_model.specs.OneProcess.{memory_here, ran_last, space_here, view_here, with_view}
+use Rattle.hybrid_model.specs.Trap.{after_trap, begin_call, child_side, trapped, with_stores}
 use Rattle.hybrid_model.specs.Pairs.{Here, Pair, here, put_here}
 use Rattle.hybrid_model.specs.Sides.{Row, Side, new_side}
 use Rattle.hybrid_model.specs.Spaces.{Space, copied_pages, first_number, frame_bytes, page_at_lowest, rest_numbers, shown_memory, shown_row}

@@ -18,7 +18,8 @@ use Rattle.hybrid_laws.specs.OneProcess.{FramesOf, NodeHolds, RingsHold}
 use Rattle.hybrid_laws.specs.Simulated.{Simulated}
 use Rattle.hybrid_model.specs.Coherence.{OfProcess}
 use Rattle.hybrid_model.specs.Events.{after_here, may_here}
-use Rattle.hybrid_model.specs.Lwk.{after_trap, child_side, memory_here, space_here, trapped, view_here, with_stores, with_view, child_space}
+use Rattle.hybrid_model.specs.OneProcess.{memory_here, space_here, view_here, with_view}
+use Rattle.hybrid_model.specs.Trap.{after_trap, child_side, trapped, with_stores, child_space}
 use Rattle.hybrid_model.specs.Pairs.{Here, ring_of}
 use Rattle.hybrid_model.specs.Shown.{shown_here}
 use Rattle.hybrid_model.specs.Sides.{Row, Side, new_side}

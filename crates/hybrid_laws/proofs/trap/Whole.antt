@@ -27,8 +27,10 @@ use Rattle.hybrid_laws.specs.Stopped.{stops}
 use Rattle.hybrid_model.specs.Coherence.{OfProcess}
 use Rattle.hybrid_model.specs.Events.{after, may, may_here}
 use Rattle.hybrid_model.specs.Globals.{CallsHold, Coherent, IsUnderWay, StatusHolds, description_held, holders, is_number, ring_number, table_of, waits_or_held}
-use Rattle.hybrid_model.specs.Linux.{first_progress, phases_in, pipe_end}
-use Rattle.hybrid_model.specs.Lwk.{after_trap, begin_call, call_made, memory_here, ran_last, trapped, view_here, with_view}
+use Rattle.hybrid_model.specs.Fetch.{first_progress, phases_in}
+use Rattle.hybrid_model.specs.Turns.{pipe_end}
+use Rattle.hybrid_model.specs.OneProcess.{memory_here, ran_last, view_here, with_view}
+use Rattle.hybrid_model.specs.Trap.{after_trap, begin_call, call_made, trapped}
 use Rattle.hybrid_model.specs.Pairs.{Here, Pair, here, put_here, ring_of, side_of}
 use Rattle.hybrid_model.specs.Rings.{post}
 use Rattle.hybrid_model.specs.Shown.{shown_own, status_by, status_of}

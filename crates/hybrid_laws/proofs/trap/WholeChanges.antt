@@ -22,8 +22,9 @@ use Rattle.hybrid_laws.proofs.trap.Says.{TrappedSays, call_regs, trap-says}
 use Rattle.hybrid_laws.proofs.trap.Trap.{simulated_trap}
 use Rattle.hybrid_model.specs.Events.{after, may, may_here}
 use Rattle.hybrid_model.specs.Globals.{Coherent, holders, ring_number, table_of}
-use Rattle.hybrid_model.specs.Linux.{pipe_end}
-use Rattle.hybrid_model.specs.Lwk.{after_trap, memory_here, ran_last, set_break, space_here, trapped, view_here}
+use Rattle.hybrid_model.specs.Turns.{pipe_end}
+use Rattle.hybrid_model.specs.OneProcess.{memory_here, ran_last, set_break, space_here, view_here}
+use Rattle.hybrid_model.specs.Trap.{after_trap, trapped}
 use Rattle.hybrid_model.specs.Pairs.{Here, Pair, here, put_here, side_of}
 use Rattle.hybrid_model.specs.Shown.{shown_own}
 use Rattle.hybrid_model.specs.Sides.{Side, service_of}

@@ -31,8 +31,9 @@ use Rattle.hybrid_laws.specs.Stopped.{stops}
 use Rattle.hybrid_model.specs.Coherence.{OfProcess}
 use Rattle.hybrid_model.specs.Events.{after, may, may_here}
 use Rattle.hybrid_model.specs.Globals.{Coherent, Frames, description_held, holders, is_number, ring_number, table_of}
-use Rattle.hybrid_model.specs.Linux.{end_of_found, end_of_target}
-use Rattle.hybrid_model.specs.Lwk.{after_trap, ran_last, trapped, view_here, memory_here}
+use Rattle.hybrid_model.specs.Turns.{end_of_found, end_of_target}
+use Rattle.hybrid_model.specs.OneProcess.{ran_last, view_here, memory_here}
+use Rattle.hybrid_model.specs.Trap.{after_trap, trapped}
 use Rattle.hybrid_model.specs.Pairs.{Here, Pair, here, put_here, side_of}
 use Rattle.hybrid_model.specs.Shown.{status_of, shown_call, shown_own}
 use Rattle.hybrid_model.specs.Sides.{Caller, Row, Side, new_side, no_lwk, service_of}

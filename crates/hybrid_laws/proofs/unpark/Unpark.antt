@@ -13,9 +13,12 @@ use Rattle.hybrid_laws.proofs.requests.Speaking.{calls-after, shown-call-at, the
 use Rattle.hybrid_laws.proofs.states.Simulated.{simulated-one}
 use Rattle.hybrid_laws.specs.Simulated.{Simulated}
 use Rattle.hybrid_model.specs.Coherence.{OfProcess, Served}
-use Rattle.hybrid_model.specs.Events.{after_here, may_here, unpark_here}
-use Rattle.hybrid_model.specs.Images.{one_step}
-use Rattle.hybrid_model.specs.Linux.{is_parked, may_take_turn, other_has_turn, pipe_end, unpark}
+use Rattle.hybrid_model.specs.Events.{after_here, may_here}
+use Rattle.hybrid_model.specs.Unpark.{unpark_here}
+use Rattle.hybrid_model.specs.OneProcess.{one_step}
+use Rattle.hybrid_model.specs.Turns.{other_has_turn, pipe_end}
+use Rattle.hybrid_model.specs.Unpark.{may_take_turn, unpark}
+use Rattle.hybrid_model.specs.Workers.{is_parked}
 use Rattle.hybrid_model.specs.Pairs.{Here}
 use Rattle.hybrid_model.specs.Shown.{shown_born, shown_call, shown_here}
 use Rattle.hybrid_model.specs.Sides.{Caller, Noted, Service, Side, call_in, service_of, state_of, with_state}

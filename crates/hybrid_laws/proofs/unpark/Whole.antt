@@ -9,9 +9,11 @@ use Rattle.hybrid_laws.proofs.states.Steps.{SimulatedPair, simulated-pair}
 use Rattle.hybrid_laws.proofs.states.Turns.{holders-same, stated-other, turns-after}
 use Rattle.hybrid_laws.proofs.unpark.Unpark.{MayUnpark, keeps_unpark, may-unpark, simulates_unpark}
 use Rattle.hybrid_model.specs.Coherence.{OfProcess}
-use Rattle.hybrid_model.specs.Events.{after, may, may_here, unpark_here}
+use Rattle.hybrid_model.specs.Events.{after, may, may_here}
+use Rattle.hybrid_model.specs.Unpark.{unpark_here}
 use Rattle.hybrid_model.specs.Globals.{Coherent, TurnsHold, description_held, ring_number, waits_or_held, CallsHold, StatusHolds}
-use Rattle.hybrid_model.specs.Linux.{is_turn_for, may_take_turn, pipe_end, turns_after_unpark, unpark, with_turn}
+use Rattle.hybrid_model.specs.Turns.{is_turn_for, pipe_end, with_turn}
+use Rattle.hybrid_model.specs.Unpark.{may_take_turn, turns_after_unpark, unpark}
 use Rattle.hybrid_model.specs.Pairs.{Here, Pair, here}
 use Rattle.hybrid_model.specs.Shown.{has_empty, reply_code, status_in, status_of}
 use Rattle.hybrid_model.specs.Sides.{Side, Turn, call_in, service_of, state_in, state_of, with_state}

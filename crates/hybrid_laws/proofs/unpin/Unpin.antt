@@ -5,7 +5,7 @@ use Rattle.hybrid_laws.proofs.states.Simulated.{simulated-none}
 use Rattle.hybrid_laws.specs.Simulated.{Simulated}
 use Rattle.hybrid_model.specs.Coherence.{Covers, OfProcess, PinServes, acked_at}
 use Rattle.hybrid_model.specs.Events.{after_here}
-use Rattle.hybrid_model.specs.Linux.{unpin}
+use Rattle.hybrid_model.specs.Unpin.{unpin}
 use Rattle.hybrid_model.specs.Pairs.{Here}
 use Rattle.hybrid_model.specs.Tallies.{Reads, with_at}
 use Rattle.mck_word.specs.Maps.{at}

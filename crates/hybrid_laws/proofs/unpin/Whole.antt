@@ -8,7 +8,7 @@ use Rattle.hybrid_laws.proofs.unpin.Unpin.{keeps_unpin, simulates_unpin}
 use Rattle.hybrid_model.specs.Coherence.{OfProcess}
 use Rattle.hybrid_model.specs.Events.{after, after_here, may, may_here}
 use Rattle.hybrid_model.specs.Globals.{Coherent, ring_number}
-use Rattle.hybrid_model.specs.Linux.{unpin}
+use Rattle.hybrid_model.specs.Unpin.{unpin}
 use Rattle.hybrid_model.specs.Pairs.{Here, Pair, here}
 use Rattle.hybrid_model.specs.Sides.{Side}
 use Rattle.kernel_model.specs.Nodes.{is_there}

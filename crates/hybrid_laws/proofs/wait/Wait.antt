@@ -12,7 +12,7 @@ use Rattle.hybrid_laws.proofs.states.Simulated.{simulated-one}
 use Rattle.hybrid_laws.specs.Simulated.{Simulated}
 use Rattle.hybrid_model.specs.Coherence.{OfProcess}
 use Rattle.hybrid_model.specs.Events.{after_here, may_here}
-use Rattle.hybrid_model.specs.Lwk.{view_here}
+use Rattle.hybrid_model.specs.OneProcess.{view_here}
 use Rattle.hybrid_model.specs.Pairs.{Here}
 use Rattle.hybrid_model.specs.Sides.{Side}
 use Rattle.kernel_model.specs.Nodes.{Node, Thread, is_living, thread_of}

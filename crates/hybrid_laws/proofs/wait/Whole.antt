@@ -12,7 +12,7 @@ use Rattle.hybrid_laws.proofs.states.Steps.{SimulatedPair, simulated-pair}
 use Rattle.hybrid_laws.proofs.wait.Wait.{keeps_wait, simulated_wait}
 use Rattle.hybrid_model.specs.Events.{after, may, may_here}
 use Rattle.hybrid_model.specs.Globals.{Coherent, ring_number}
-use Rattle.hybrid_model.specs.Lwk.{memory_here, view_here, with_view}
+use Rattle.hybrid_model.specs.OneProcess.{memory_here, view_here, with_view}
 use Rattle.hybrid_model.specs.Pairs.{Here, Pair, here, side_of}
 use Rattle.kernel_model.specs.Nodes.{Node, Thread, is_asleep, is_living, is_there, thread_of}
 use Rattle.kernel_model.specs.Signals.{stored_all}

@@ -2,8 +2,10 @@
 use Rattle.hybrid_model.specs.declared.events.Event.TheVariants as Events
 use Rattle.hybrid_laws.proofs.copy.Copy.{may-copy}
 use Rattle.hybrid_laws.proofs.maps.Sums.{counted_in, total-put}
-use Rattle.hybrid_model.specs.Events.{copy, may_here}
-use Rattle.hybrid_model.specs.Linux.{copied, moved_by, state_if, stepped_book, stepped_service}
+use Rattle.hybrid_model.specs.Copy.{copy}
+use Rattle.hybrid_model.specs.Events.{may_here}
+use Rattle.hybrid_model.specs.Copy.{copied, moved_by}
+use Rattle.hybrid_model.specs.Workers.{state_if, stepped_book, stepped_service}
 use Rattle.hybrid_model.specs.Pairs.{Here}
 use Rattle.hybrid_model.specs.Sides.{LinuxSide, pin_of, served, serves}
 use Rattle.hybrid_model.specs.Spaces.{frame_bytes}

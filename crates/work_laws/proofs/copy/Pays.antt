@@ -10,7 +10,7 @@ use Rattle.hybrid_laws.proofs.states.Steps.{one-here}
 use Rattle.hybrid_model.specs.Coherence.{PinServes}
 use Rattle.hybrid_model.specs.Events.{after, after_here, may, may_here}
 use Rattle.hybrid_model.specs.Globals.{Coherent, ring_number}
-use Rattle.hybrid_model.specs.Lwk.{thread_served}
+use Rattle.hybrid_model.specs.Answer.{thread_served}
 use Rattle.hybrid_model.specs.Pairs.{Here, Pair, here, side_of}
 use Rattle.hybrid_model.specs.Shown.{one}
 use Rattle.hybrid_model.specs.Sides.{Service, service_of}

@@ -6,8 +6,10 @@ use Rattle.hybrid_laws.proofs.copy.Copy.{MayCopy, may-copy}
 use Rattle.hybrid_laws.proofs.maps.Sums.{counted_at, counted_in, total-cut, total-cut-by, total-put}
 use Rattle.hybrid_laws.proofs.requests.HeldStep.{held-row}
 use Rattle.hybrid_model.specs.Coherence.{OfProcess, PinServes, holder}
-use Rattle.hybrid_model.specs.Events.{after_here, copy, may_here}
-use Rattle.hybrid_model.specs.Linux.{copied, is_uncopied, moved_by, state_if, stepped_service}
+use Rattle.hybrid_model.specs.Copy.{copy}
+use Rattle.hybrid_model.specs.Events.{after_here, may_here}
+use Rattle.hybrid_model.specs.Copy.{copied, is_uncopied, moved_by}
+use Rattle.hybrid_model.specs.Workers.{state_if, stepped_service}
 use Rattle.hybrid_model.specs.Pairs.{Here}
 use Rattle.hybrid_model.specs.Sides.{LinuxSide, Service, Side, looked_up, serves, service_of, state_in, with_state}
 use Rattle.hybrid_model.specs.Spaces.{frame_bytes}

@@ -3,7 +3,8 @@ use Rattle.hybrid_model.specs.declared.events.Event.TheVariants as Events
 use Rattle.clear_rounds.specs.declared.Phase.TheVariants.{Acked}
 use Rattle.hybrid_laws.proofs.ack_clear.AckClear.{may-ack-clear}
 use Rattle.hybrid_laws.proofs.maps.Reading.{tally-push}
-use Rattle.hybrid_model.specs.Events.{ack_clear, may_here}
+use Rattle.hybrid_model.specs.AckClear.{ack_clear}
+use Rattle.hybrid_model.specs.Events.{may_here}
 use Rattle.hybrid_model.specs.Pairs.{Here}
 use Rattle.hybrid_model.specs.Sides.{with_phase}
 use Rattle.ikc_ring.specs.declared.Msg.TheVariants.{Ack}

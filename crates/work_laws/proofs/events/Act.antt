@@ -1,8 +1,13 @@
 -- Act: the request goes on or ends, and the files change. Park: the request is Parked, and counts less; or it ends, and its description is given back.
 use Rattle.hybrid_model.specs.declared.events.Event.TheVariants as Events
 use Rattle.hybrid_laws.proofs.park.Park.{may-park}
-use Rattle.hybrid_model.specs.Events.{act_file, may_here, park_here}
-use Rattle.hybrid_model.specs.Linux.{acted, is_uncopied, park_blocks, park_stops, state_if, stepped, stepped_book}
+use Rattle.hybrid_model.specs.Act.{act_file}
+use Rattle.hybrid_model.specs.Events.{may_here}
+use Rattle.hybrid_model.specs.Park.{park_here}
+use Rattle.hybrid_model.specs.Act.{acted}
+use Rattle.hybrid_model.specs.Copy.{is_uncopied}
+use Rattle.hybrid_model.specs.Park.{park_blocks, park_stops}
+use Rattle.hybrid_model.specs.Workers.{state_if, stepped, stepped_book}
 use Rattle.hybrid_model.specs.Pairs.{Here}
 use Rattle.hybrid_model.specs.Sides.{LinuxSide, looked_up, served, serves, service_of, with_state}
 use Rattle.kernel_model.specs.Progress.{After, given_back, interrupted_answer, is_not_ready, is_ready, needed_access, next_kind, next_piece}

@@ -5,7 +5,7 @@ use Rattle.hybrid_laws.proofs.maps.Reading.{sum-post}
 use Rattle.hybrid_laws.proofs.maps.Sums.{counted_in, total-cut}
 use Rattle.hybrid_model.specs.Coherence.{OfProcess}
 use Rattle.hybrid_model.specs.Events.{may_here}
-use Rattle.hybrid_model.specs.Lwk.{answer_to, files_after_answer, noted_of, post_answer, thread_served}
+use Rattle.hybrid_model.specs.Answer.{answer_to, files_after_answer, noted_of, post_answer, thread_served}
 use Rattle.hybrid_model.specs.Pairs.{Here, ring_of}
 use Rattle.hybrid_model.specs.Sides.{Row, looked_up, served}
 use Rattle.ikc_ring.specs.declared.Msg.TheVariants.{Answer}

@@ -4,7 +4,8 @@ use Rattle.hybrid_laws.proofs.assign.Assign.{may-assign, waiting-first}
 use Rattle.hybrid_laws.proofs.maps.Tests.{not-empty}
 use Rattle.hybrid_model.specs.Coherence.{OfProcess}
 use Rattle.hybrid_model.specs.Events.{may_here}
-use Rattle.hybrid_model.specs.Linux.{assign, is_uncopied}
+use Rattle.hybrid_model.specs.Assign.{assign}
+use Rattle.hybrid_model.specs.Copy.{is_uncopied}
 use Rattle.hybrid_model.specs.Pairs.{Here}
 use Rattle.hybrid_model.specs.Sides.{LinuxSide, Service, looked_up, service_of}
 use Rattle.hybrid_model.specs.Spaces.{first_number}

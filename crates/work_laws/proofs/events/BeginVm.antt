@@ -4,7 +4,7 @@ use Rattle.hybrid_laws.proofs.begin_vm.BeginVm.{may-begin}
 use Rattle.hybrid_laws.proofs.maps.Reading.{sum-post}
 use Rattle.hybrid_laws.proofs.maps.Tests.{both}
 use Rattle.hybrid_model.specs.Events.{may_here}
-use Rattle.hybrid_model.specs.Lwk.{begin_round, begin_vm_of}
+use Rattle.hybrid_model.specs.BeginVm.{begin_round, begin_vm_of}
 use Rattle.hybrid_model.specs.Pairs.{Here, ring_of}
 use Rattle.ikc_ring.specs.declared.Msg.TheVariants.{Clear}
 use Rattle.kernel_model.specs.MemoryCalls.{closing_range}

@@ -2,8 +2,9 @@
 use Rattle.hybrid_model.specs.declared.events.Event.TheVariants as Events
 use Rattle.hybrid_laws.proofs.finish.Finish.{may-finish}
 use Rattle.hybrid_laws.proofs.maps.Reading.{tally-push}
-use Rattle.hybrid_model.specs.Events.{finish_here, may_here}
-use Rattle.hybrid_model.specs.Linux.{finish, reply_of}
+use Rattle.hybrid_model.specs.Events.{may_here}
+use Rattle.hybrid_model.specs.Finish.{finish_here}
+use Rattle.hybrid_model.specs.Finish.{finish, reply_of}
 use Rattle.hybrid_model.specs.Pairs.{Here}
 use Rattle.hybrid_model.specs.Sides.{LinuxSide, Service, serves}
 use Rattle.mck_word.specs.Maps.{at, cut}

@@ -5,7 +5,8 @@ use Rattle.hybrid_laws.proofs.intake.Reply.{awaits, caller}
 use Rattle.hybrid_laws.proofs.maps.Sums.{total-put}
 use Rattle.hybrid_model.specs.Coherence.{OfProcess}
 use Rattle.hybrid_model.specs.Globals.{HeapHolds}
-use Rattle.hybrid_model.specs.Lwk.{caller_of, changed, intake, memory_here, round_over, space_here, take_fault, take_reply, take_reply_of}
+use Rattle.hybrid_model.specs.Intake.{caller_of, changed, intake, round_over, take_fault, take_reply, take_reply_of}
+use Rattle.hybrid_model.specs.OneProcess.{memory_here, space_here}
 use Rattle.hybrid_model.specs.Pairs.{Here, with_side}
 use Rattle.hybrid_model.specs.Sides.{Row}
 use Rattle.hybrid_model.specs.Spaces.{after_effect}

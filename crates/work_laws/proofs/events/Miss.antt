@@ -4,8 +4,11 @@ use Rattle.hybrid_laws.proofs.maps.Reading.{tally-push}
 use Rattle.hybrid_laws.proofs.maps.Tests.{both}
 use Rattle.hybrid_laws.proofs.miss.Miss.{may-miss}
 use Rattle.hybrid_model.specs.Coherence.{OfProcess}
-use Rattle.hybrid_model.specs.Events.{may_here, miss}
-use Rattle.hybrid_model.specs.Linux.{fault_of, is_free_to_act, is_uncopied, kind_for, may_miss, row_for}
+use Rattle.hybrid_model.specs.Events.{may_here}
+use Rattle.hybrid_model.specs.Miss.{miss}
+use Rattle.hybrid_model.specs.Copy.{is_uncopied}
+use Rattle.hybrid_model.specs.Miss.{fault_of, may_miss}
+use Rattle.hybrid_model.specs.Workers.{is_free_to_act, kind_for, row_for}
 use Rattle.hybrid_model.specs.Pairs.{Here}
 use Rattle.hybrid_model.specs.Sides.{served, serves}
 use Rattle.kernel_model.specs.Progress.{is_ready}

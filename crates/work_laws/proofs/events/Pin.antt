@@ -6,7 +6,9 @@ use Rattle.hybrid_laws.proofs.maps.Totals.{entries-but}
 use Rattle.hybrid_laws.proofs.pin.Pin.{may-pin}
 use Rattle.hybrid_model.specs.Coherence.{OfProcess, holder}
 use Rattle.hybrid_model.specs.Events.{may_here}
-use Rattle.hybrid_model.specs.Linux.{is_uncopied, pin, pinned, row_for}
+use Rattle.hybrid_model.specs.Copy.{is_uncopied}
+use Rattle.hybrid_model.specs.Pin.{pin, pinned}
+use Rattle.hybrid_model.specs.Workers.{row_for}
 use Rattle.hybrid_model.specs.Pairs.{Here}
 use Rattle.hybrid_model.specs.Sides.{LinuxSide, Row, looked_up, served, service_of, state_in}
 use Rattle.ikc_ring.specs.declared.Call.{Call}

@@ -1,8 +1,9 @@
 -- Unpark lessens the work: a request that may leave the state Parked counts more than one that is Waiting.
 use Rattle.hybrid_model.specs.declared.events.Event.TheVariants as Events
 use Rattle.hybrid_laws.proofs.unpark.Unpark.{may-unpark}
-use Rattle.hybrid_model.specs.Events.{may_here, unpark_here}
-use Rattle.hybrid_model.specs.Linux.{unpark}
+use Rattle.hybrid_model.specs.Events.{may_here}
+use Rattle.hybrid_model.specs.Unpark.{unpark_here}
+use Rattle.hybrid_model.specs.Unpark.{unpark}
 use Rattle.hybrid_model.specs.Pairs.{Here}
 use Rattle.mck_word.specs.declared.Req.{Req}
 use Rattle.request_book.specs.declared.ReqState.TheVariants.{Parked, Waiting}

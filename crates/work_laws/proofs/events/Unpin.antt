@@ -6,7 +6,9 @@ use Rattle.hybrid_laws.proofs.maps.Tests.{both, some-is}
 use Rattle.hybrid_laws.proofs.maps.Totals.{entries-same}
 use Rattle.hybrid_model.specs.Coherence.{OfProcess, holder}
 use Rattle.hybrid_model.specs.Events.{may_here}
-use Rattle.hybrid_model.specs.Linux.{has_pin, holds, is_copied, is_held, is_uncopied, kind_for, may_unpin, unpin}
+use Rattle.hybrid_model.specs.Copy.{is_uncopied}
+use Rattle.hybrid_model.specs.Unpin.{is_copied, may_unpin, unpin}
+use Rattle.hybrid_model.specs.Workers.{has_pin, holds, is_held, kind_for}
 use Rattle.hybrid_model.specs.Pairs.{Here}
 use Rattle.hybrid_model.specs.Sides.{LinuxSide, Service, looked_up, service_of, state_in}
 use Rattle.ikc_ring.specs.declared.Call.{Call}

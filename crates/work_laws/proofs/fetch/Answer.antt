@@ -4,8 +4,9 @@ use Rattle.request_book.specs.declared.ReqState.TheVariants as States
 use Rattle.hybrid_laws.proofs.fetch.AnswerKeeps.{found}
 use Rattle.hybrid_laws.proofs.maps.Reading.{first-of, sum-take}
 use Rattle.hybrid_model.specs.Coherence.{AnswerIsFor, MirrorCovered, OfProcess}
-use Rattle.hybrid_model.specs.Events.{fetch_from}
-use Rattle.hybrid_model.specs.Linux.{fetch_empty, fetch_row, installed, is_uncopied}
+use Rattle.hybrid_model.specs.Fetch.{fetch_from}
+use Rattle.hybrid_model.specs.Copy.{is_uncopied}
+use Rattle.hybrid_model.specs.Fetch.{fetch_empty, fetch_row, installed}
 use Rattle.hybrid_model.specs.Pairs.{Here}
 use Rattle.hybrid_model.specs.Rings.{ring, with_ring}
 use Rattle.hybrid_model.specs.Sides.{LinuxSide, Row, Service, looked_up, serves, service_of, with_state}

@@ -2,8 +2,8 @@
 use Rattle.clear_rounds.specs.declared.Phase.TheVariants.{Taken}
 use Rattle.hybrid_laws.proofs.maps.Reading.{first-of, sum-take}
 use Rattle.hybrid_model.specs.Coherence.{ClearIsOf, OfProcess}
-use Rattle.hybrid_model.specs.Events.{fetch_from}
-use Rattle.hybrid_model.specs.Linux.{fetch_clear}
+use Rattle.hybrid_model.specs.Fetch.{fetch_from}
+use Rattle.hybrid_model.specs.Fetch.{fetch_clear}
 use Rattle.hybrid_model.specs.Pairs.{Here}
 use Rattle.hybrid_model.specs.Rings.{ring, with_ring}
 use Rattle.hybrid_model.specs.Sides.{LinuxSide, Round, Row, with_phase}

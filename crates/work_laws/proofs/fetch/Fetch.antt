@@ -3,7 +3,8 @@ use Rattle.hybrid_model.specs.declared.events.Event.TheVariants as Events
 use Rattle.hybrid_laws.proofs.fetch.Fetch.{goes}
 use Rattle.hybrid_laws.proofs.maps.Tests.{not-empty}
 use Rattle.hybrid_model.specs.Coherence.{OfProcess, goes_to_linux}
-use Rattle.hybrid_model.specs.Events.{fetch_from, may_here}
+use Rattle.hybrid_model.specs.Events.{may_here}
+use Rattle.hybrid_model.specs.Fetch.{fetch_from}
 use Rattle.hybrid_model.specs.Pairs.{Here}
 use Rattle.hybrid_model.specs.Rings.{ring}
 use Rattle.hybrid_model.specs.Tallies.{sum_rings}

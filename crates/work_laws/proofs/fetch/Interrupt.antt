@@ -1,8 +1,9 @@
 -- Fetch of an Interrupt lessens the work: it counts more than a request that may leave the state Parked from then on.
 use Rattle.hybrid_laws.proofs.maps.Reading.{sum-take}
 use Rattle.hybrid_laws.proofs.maps.Totals.{entries-but, entries-same}
-use Rattle.hybrid_model.specs.Events.{fetch_from}
-use Rattle.hybrid_model.specs.Linux.{fetch_interrupt, is_ended_or_replied, marked_for_linux}
+use Rattle.hybrid_model.specs.Fetch.{fetch_from}
+use Rattle.hybrid_model.specs.Fetch.{fetch_interrupt, marked_for_linux}
+use Rattle.hybrid_model.specs.Workers.{is_ended_or_replied}
 use Rattle.hybrid_model.specs.Pairs.{Here}
 use Rattle.hybrid_model.specs.Rings.{ring, with_ring}
 use Rattle.hybrid_model.specs.Sides.{LinuxSide, Service, service_of, state_of}

@@ -1,8 +1,8 @@
 -- Fetch of a Request lessens the work: a request that is Waiting counts less than one that is Posted.
 use Rattle.hybrid_laws.proofs.maps.Reading.{first-of, sum-take}
 use Rattle.hybrid_model.specs.Coherence.{OfProcess, RequestIs}
-use Rattle.hybrid_model.specs.Events.{fetch_from}
-use Rattle.hybrid_model.specs.Linux.{fetch_request, new_service}
+use Rattle.hybrid_model.specs.Fetch.{fetch_from}
+use Rattle.hybrid_model.specs.Fetch.{fetch_request, new_service}
 use Rattle.hybrid_model.specs.Pairs.{Here}
 use Rattle.hybrid_model.specs.Rings.{ring}
 use Rattle.hybrid_model.specs.Sides.{LinuxSide, Service}

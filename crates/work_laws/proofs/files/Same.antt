@@ -3,7 +3,11 @@ use Rattle.hybrid_model.specs.declared.events.Event.TheVariants as Events
 use Rattle.hybrid_laws.proofs.calls.Closed.{Closed, deliver-closed, finishes-closed, moved-closed, returns-closed, script-closed, wait_over-closed}
 use Rattle.hybrid_laws.proofs.node.Goes.{ignored-goes, wake-goes}
 use Rattle.hybrid_model.specs.Events.{after_here}
-use Rattle.hybrid_model.specs.Lwk.{after_deliver, caller_of, change_made_of, changed, changing_thread, intake, interrupt_as, is_calling, memory_here, round_over, run, run_for, set_break, take_ack, take_fault, take_reply, take_reply_of, view_here}
+use Rattle.hybrid_model.specs.Deliver.{after_deliver}
+use Rattle.hybrid_model.specs.Intake.{caller_of, change_made_of, changed, changing_thread, intake, round_over, take_ack, take_fault, take_reply, take_reply_of}
+use Rattle.hybrid_model.specs.Interrupt.{interrupt_as, is_calling}
+use Rattle.hybrid_model.specs.OneProcess.{memory_here, set_break, view_here}
+use Rattle.hybrid_model.specs.Run.{run, run_for}
 use Rattle.hybrid_model.specs.Pairs.{Here, with_side}
 use Rattle.ikc_ring.specs.declared.Msg.TheVariants.{Ack, Answer, Clear, Fault, Interrupt, Reply, Request}
 use Rattle.ikc_ring.specs.declared.Msg.{Msg}

@@ -11,8 +11,16 @@ use Rattle.hybrid_laws.proofs.states.Steps.{SimulatedPair, one-here}
 use Rattle.hybrid_model.specs.Coherence.{OfProcess}
 use Rattle.hybrid_model.specs.Events.{after, may, may_here, process_of_event}
 use Rattle.hybrid_model.specs.Globals.{Coherent, HeapHolds, ring_number}
-use Rattle.hybrid_model.specs.Images.{caller_number, image, image_of_answer, image_of_intake, image_of_interrupt, image_of_park, thread_of_request}
-use Rattle.hybrid_model.specs.Lwk.{answer_to, caller_of, changing_thread, executed_in_run, is_calling, thread_served}
+use Rattle.hybrid_model.specs.Answer.{image_of_answer}
+use Rattle.hybrid_model.specs.Images.{image}
+use Rattle.hybrid_model.specs.Intake.{caller_number, image_of_intake}
+use Rattle.hybrid_model.specs.Interrupt.{image_of_interrupt}
+use Rattle.hybrid_model.specs.Park.{image_of_park}
+use Rattle.hybrid_model.specs.Unpark.{thread_of_request}
+use Rattle.hybrid_model.specs.Answer.{answer_to, thread_served}
+use Rattle.hybrid_model.specs.Intake.{caller_of, changing_thread}
+use Rattle.hybrid_model.specs.Interrupt.{is_calling}
+use Rattle.hybrid_model.specs.Run.{executed_in_run}
 use Rattle.hybrid_model.specs.Pairs.{Here, Pair, here, side_of}
 use Rattle.hybrid_model.specs.Shown.{one, shown_call}
 use Rattle.hybrid_model.specs.Sides.{Caller, Row, Side, served}

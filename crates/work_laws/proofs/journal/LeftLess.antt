@@ -7,7 +7,7 @@ use Rattle.hybrid_model.specs.Boot.{boot}
 use Rattle.hybrid_model.specs.Events.{after, after_here, may, process_of_event}
 use Rattle.hybrid_model.specs.Globals.{Coherent}
 use Rattle.hybrid_model.specs.Journals.{IsLegal, may_all, state}
-use Rattle.hybrid_model.specs.Lwk.{left_of_limit}
+use Rattle.hybrid_model.specs.Run.{left_of_limit}
 use Rattle.hybrid_model.specs.Pairs.{Pair, here}
 use Rattle.hybrid_model.specs.declared.events.Event.{Event}
 use Rattle.job_model.specs.Prepared.{IsPrepared}

@@ -6,9 +6,22 @@ use Rattle.hybrid_laws.proofs.node.Goes.{goes-moves, goes-then}
 use Rattle.hybrid_laws.proofs.node.Sound.{Sound}
 use Rattle.hybrid_laws.proofs.reap.EndedNode.{closed-instructions, closed-stops, node-closed}
 use Rattle.hybrid_laws.proofs.states.Effect.{set-instructions}
-use Rattle.hybrid_model.specs.Events.{ack_clear, act_file, copy, finish_here, miss, park_here, unpark_here}
-use Rattle.hybrid_model.specs.Events.{after_here, fetch_from}
-use Rattle.hybrid_model.specs.Lwk.{after_deliver, begin_round, begin_vm_of, caller_of, change_made_of, changed, changing_thread, intake, interrupt_as, is_calling, memory_here, post_answer, post_interrupt, reap, round_over, set_break, take_ack, take_fault, take_reply, take_reply_of, view_here}
+use Rattle.hybrid_model.specs.AckClear.{ack_clear}
+use Rattle.hybrid_model.specs.Act.{act_file}
+use Rattle.hybrid_model.specs.Copy.{copy}
+use Rattle.hybrid_model.specs.Finish.{finish_here}
+use Rattle.hybrid_model.specs.Miss.{miss}
+use Rattle.hybrid_model.specs.Park.{park_here}
+use Rattle.hybrid_model.specs.Unpark.{unpark_here}
+use Rattle.hybrid_model.specs.Events.{after_here}
+use Rattle.hybrid_model.specs.Fetch.{fetch_from}
+use Rattle.hybrid_model.specs.Answer.{post_answer}
+use Rattle.hybrid_model.specs.BeginVm.{begin_round, begin_vm_of}
+use Rattle.hybrid_model.specs.Deliver.{after_deliver}
+use Rattle.hybrid_model.specs.Intake.{caller_of, change_made_of, changed, changing_thread, intake, round_over, take_ack, take_fault, take_reply, take_reply_of}
+use Rattle.hybrid_model.specs.Interrupt.{interrupt_as, is_calling, post_interrupt}
+use Rattle.hybrid_model.specs.OneProcess.{memory_here, set_break, view_here}
+use Rattle.hybrid_model.specs.Reap.{reap}
 use Rattle.hybrid_model.specs.Pairs.{Here, with_side}
 use Rattle.hybrid_model.specs.Rings.{ring}
 use Rattle.hybrid_model.specs.declared.events.Event.{Event}

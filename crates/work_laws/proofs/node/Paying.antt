@@ -12,7 +12,9 @@ use Rattle.hybrid_laws.proofs.trap.Begins.{Traps, may-traps}
 use Rattle.hybrid_laws.specs.Stopped.{stops}
 use Rattle.hybrid_model.specs.Events.{after_here, may, may_here, process_of_event}
 use Rattle.hybrid_model.specs.Globals.{Coherent}
-use Rattle.hybrid_model.specs.Lwk.{after_trap, left_of_limit, memory_here, run, run_for, set_break, trapped, view_here}
+use Rattle.hybrid_model.specs.OneProcess.{memory_here, set_break, view_here}
+use Rattle.hybrid_model.specs.Run.{left_of_limit, run, run_for}
+use Rattle.hybrid_model.specs.Trap.{after_trap, trapped}
 use Rattle.hybrid_model.specs.Pairs.{Here, Pair, here}
 use Rattle.hybrid_model.specs.Tallies.{as_number}
 use Rattle.hybrid_model.specs.declared.events.Event.{Event}

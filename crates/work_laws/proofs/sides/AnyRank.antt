@@ -1,7 +1,7 @@
 -- What a request counts lies between two numbers, so no change makes the requests of a process count more than so much; and what another order of readiness does.
 use Rattle.request_book.specs.declared.ReqState.TheVariants as States
 use Rattle.file_model.specs.Files.{Files}
-use Rattle.hybrid_model.specs.Linux.{is_uncopied}
+use Rattle.hybrid_model.specs.Copy.{is_uncopied}
 use Rattle.hybrid_model.specs.Sides.{LinuxSide, Row, Service, looked_up, service_of}
 use Rattle.hybrid_model.specs.Tallies.{Reads}
 use Rattle.ikc_ring.specs.declared.Call.{Call}

@@ -3,7 +3,10 @@ use Rattle.hybrid_model.specs.declared.events.Event.TheVariants as Events
 use Rattle.hybrid_laws.proofs.maps.Reading.{sum-post}
 use Rattle.hybrid_laws.proofs.reap.Reap.{reaps}
 use Rattle.hybrid_model.specs.Events.{after_here, may_here}
-use Rattle.hybrid_model.specs.Lwk.{after_deliver, caller_at, interrupt_as, is_calling, post_interrupt, reap, run}
+use Rattle.hybrid_model.specs.Deliver.{after_deliver}
+use Rattle.hybrid_model.specs.Interrupt.{caller_at, interrupt_as, is_calling, post_interrupt}
+use Rattle.hybrid_model.specs.Reap.{reap}
+use Rattle.hybrid_model.specs.Run.{run}
 use Rattle.hybrid_model.specs.Pairs.{Here, ring_of}
 use Rattle.hybrid_model.specs.Rings.{all_empty}
 use Rattle.hybrid_model.specs.Sides.{LinuxSide}

@@ -3,7 +3,7 @@ use Rattle.hybrid_laws.proofs.memory.NewSide.{no-at}
 use Rattle.hybrid_laws.proofs.requests.Speaking.{shown-call-at, the-caller, the-thread, thread-served-is}
 use Rattle.hybrid_laws.proofs.states.Steps.{one-here}
 use Rattle.hybrid_model.specs.Globals.{Coherent, StatusHolds, ring_number}
-use Rattle.hybrid_model.specs.Lwk.{thread_served}
+use Rattle.hybrid_model.specs.Answer.{thread_served}
 use Rattle.hybrid_model.specs.Pairs.{Here, Pair, here, side_of}
 use Rattle.hybrid_model.specs.Shown.{one, shown_call, shown_own}
 use Rattle.hybrid_model.specs.Sides.{Caller, Service, Side, new_side, service_of}

@@ -8,7 +8,8 @@ use Rattle.hybrid_laws.proofs.maps.Tests.{both}
 use Rattle.hybrid_laws.proofs.states.Pair.{has-side}
 use Rattle.hybrid_model.specs.Events.{after, may, may_here}
 use Rattle.hybrid_model.specs.Globals.{Coherent, ring_number}
-use Rattle.hybrid_model.specs.Lwk.{after_trap, begin_call, call_made, child_space, memory_here, space_here, trapped, view_here, with_stores, with_view, set_break}
+use Rattle.hybrid_model.specs.OneProcess.{memory_here, space_here, view_here, with_view, set_break}
+use Rattle.hybrid_model.specs.Trap.{after_trap, begin_call, call_made, child_space, trapped, with_stores}
 use Rattle.hybrid_model.specs.Pairs.{Here, Pair, here, ring_of, side_of, with_born}
 use Rattle.hybrid_model.specs.Sides.{Row, Side, new_side, no_lwk}
 use Rattle.hybrid_model.specs.Spaces.{after_effect}

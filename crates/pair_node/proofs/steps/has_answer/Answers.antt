@@ -1,5 +1,5 @@
 use Rattle.hybrid_model.specs.Sides.{Side}
-use Rattle.hybrid_model.specs.Lwk.{answer_to}
+use Rattle.hybrid_model.specs.Answer.{answer_to}
 use Rattle.pair_node.proofs.Sides.{new-answer, no-side, own-side}
 use Rattle.pair_node.proofs.steps.has_answer.Goals as goal
 use Rattle.proxy_worker.specs.Shown.{linux_of}

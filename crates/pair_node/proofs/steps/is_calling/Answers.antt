@@ -1,5 +1,5 @@
 use Rattle.hybrid_model.specs.Sides.{Side}
-use Rattle.hybrid_model.specs.Lwk.{is_calling}
+use Rattle.hybrid_model.specs.Interrupt.{is_calling}
 use Rattle.pair_node.proofs.Sides.{new-calling, no-side, own-side, some-copied, some-shown}
 use Rattle.pair_node.proofs.steps.is_calling.Goals as goal
 use Rattle.std.proofs.Common.{ap, sym, ◌∙◌}

@@ -1,4 +1,4 @@
-use Rattle.hybrid_model.specs.Images.{image_of_intake}
+use Rattle.hybrid_model.specs.Intake.{image_of_intake}
 use Rattle.hybrid_model.specs.Sides.{Side}
 use Rattle.pair_core.proofs.Found.{of-process}
 use Rattle.pair_core.proofs.Taken.{callers-fit}

@@ -1,5 +1,5 @@
-use Rattle.hybrid_model.specs.Images.{image_of_interrupt}
-use Rattle.hybrid_model.specs.Lwk.{is_calling}
+use Rattle.hybrid_model.specs.Interrupt.{image_of_interrupt}
+use Rattle.hybrid_model.specs.Interrupt.{is_calling}
 use Rattle.hybrid_model.specs.Pairs.{side_of}
 use Rattle.pair_core.proofs.KernelFacts.{process-is}
 use Rattle.pair_core.specs.Shown.{pair_of}

@@ -1,5 +1,5 @@
 use Rattle.hybrid_model.specs.Sides.{Side}
-use Rattle.hybrid_model.specs.Images.{thread_of_request}
+use Rattle.hybrid_model.specs.Unpark.{thread_of_request}
 use Rattle.pair_node.proofs.Sides.{new-request, no-side, own-side}
 use Rattle.pair_node.proofs.steps.thread_of_request.Goals as goal
 use Rattle.std.proofs.Common.{ap, sym, ◌∙◌}

@@ -1,5 +1,5 @@
 use Rattle.hybrid_model.specs.Sides.{Side, call_of}
-use Rattle.hybrid_model.specs.Lwk.{thread_served}
+use Rattle.hybrid_model.specs.Answer.{thread_served}
 use Rattle.pair_node.proofs.Sides.{new-thread, no-side, own-side}
 use Rattle.pair_node.proofs.steps.thread_of_worker.Goals as goal
 use Rattle.std.proofs.Common.{ap, sym, ◌∙◌}

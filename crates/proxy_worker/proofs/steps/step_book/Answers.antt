@@ -1,4 +1,4 @@
-use Rattle.hybrid_model.specs.Linux.{state_if}
+use Rattle.hybrid_model.specs.Workers.{state_if}
 use Rattle.hybrid_model.specs.Sides.{with_state}
 use Rattle.proxy_worker.proofs.Acts.{no-answer, held-same}
 use Rattle.std.proofs.Common.{ap, sym, ◌∙◌}

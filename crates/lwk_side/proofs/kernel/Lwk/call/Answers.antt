@@ -1,4 +1,5 @@
-use Rattle.hybrid_model.specs.Lwk.{trapped, view_here}
+use Rattle.hybrid_model.specs.OneProcess.{view_here}
+use Rattle.hybrid_model.specs.Trap.{trapped}
 use Rattle.kernel_model.specs.Calls.{local_call}
 use Rattle.kernel_model.specs.Plans as plans
 use Rattle.kernel_model.specs.Progress.{starting}

@@ -1,4 +1,5 @@
-use Rattle.hybrid_model.specs.Lwk.{trapped, view_here}
+use Rattle.hybrid_model.specs.OneProcess.{view_here}
+use Rattle.hybrid_model.specs.Trap.{trapped}
 use Rattle.hybrid_model.specs.Pairs.{with_node}
 use Rattle.kernel_model.specs.MemoryCalls.{Decision, decide}
 use Rattle.kernel_model.specs.Nodes.{Node, process_of}

@@ -1,4 +1,5 @@
-use Rattle.hybrid_model.specs.Lwk.{after_deliver, ran_last}
+use Rattle.hybrid_model.specs.Deliver.{after_deliver}
+use Rattle.hybrid_model.specs.OneProcess.{ran_last}
 use Rattle.kernel_model.specs.Signals.{deliver}
 use Rattle.lwk_side.proofs.Viewing.{did-is}
 use Rattle.lwk_side.proofs.kernel.Lwk.deliver.Goals as goal

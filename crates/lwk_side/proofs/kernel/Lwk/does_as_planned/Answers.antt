@@ -1,4 +1,5 @@
-use Rattle.hybrid_model.specs.Lwk.{trapped, view_here}
+use Rattle.hybrid_model.specs.OneProcess.{view_here}
+use Rattle.hybrid_model.specs.Trap.{trapped}
 use Rattle.kernel_model.specs.LocalCalls.{answers}
 use Rattle.kernel_model.specs.Nodes.{answered, process_of, set_does}
 use Rattle.kernel_model.specs.Signals.{on_node}

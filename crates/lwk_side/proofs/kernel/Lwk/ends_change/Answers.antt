@@ -1,4 +1,4 @@
-use Rattle.hybrid_model.specs.Lwk.{changed}
+use Rattle.hybrid_model.specs.Intake.{changed}
 use Rattle.hybrid_model.specs.Pairs.{with_node}
 use Rattle.kernel_model.specs.Nodes.{process_of}
 use Rattle.kernel_model.specs.Traps.{finishes}

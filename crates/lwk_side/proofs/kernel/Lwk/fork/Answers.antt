@@ -1,5 +1,6 @@
 use Rattle.file_model.specs.Files.{root_only, share}
-use Rattle.hybrid_model.specs.Lwk.{ran_last, trapped, view_here, with_view}
+use Rattle.hybrid_model.specs.OneProcess.{ran_last, view_here, with_view}
+use Rattle.hybrid_model.specs.Trap.{trapped}
 use Rattle.kernel_model.specs.CloneCalls.{Cloned, forks}
 use Rattle.kernel_model.specs.LocalCalls.{answers}
 use Rattle.kernel_model.specs.Nodes.{thread_of}

@@ -1,5 +1,6 @@
 use Rattle.file_model.specs.Files.{share}
-use Rattle.hybrid_model.specs.Lwk.{trapped, view_here}
+use Rattle.hybrid_model.specs.OneProcess.{view_here}
+use Rattle.hybrid_model.specs.Trap.{trapped}
 use Rattle.hybrid_model.specs.Spaces.{Space, shown_memory, written_back}
 use Rattle.isa_model.specs.Memory.{Memory, may_access}
 use Rattle.kernel_model.specs.CloneCalls.{child_stores}

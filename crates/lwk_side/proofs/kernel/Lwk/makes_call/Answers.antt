@@ -1,4 +1,5 @@
-use Rattle.hybrid_model.specs.Lwk.{trapped, view_here}
+use Rattle.hybrid_model.specs.OneProcess.{view_here}
+use Rattle.hybrid_model.specs.Trap.{trapped}
 use Rattle.kernel_model.specs.Traps.{Trapped, past_ecall}
 use Rattle.lwk_side.proofs.Cloned.{clone-done}
 use Rattle.lwk_side.proofs.Planned.{local-done}

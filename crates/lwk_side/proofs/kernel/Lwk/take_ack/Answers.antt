@@ -1,6 +1,6 @@
 use Rattle.lwk_side.proofs.kernel.Lwk.take_ack.Goals as goal
 use Rattle.file_model.specs.Files.{root_only}
-use Rattle.hybrid_model.specs.Lwk.{change_made_of}
+use Rattle.hybrid_model.specs.Intake.{change_made_of}
 use Rattle.hybrid_model.specs.Pairs.{Here, with_side}
 use Rattle.hybrid_model.specs.Rings.{rest_of}
 use Rattle.kernel_model.specs.Nodes.{change_in}

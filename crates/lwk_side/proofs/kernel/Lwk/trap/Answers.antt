@@ -1,4 +1,4 @@
-use Rattle.hybrid_model.specs.Lwk.{ran_last}
+use Rattle.hybrid_model.specs.OneProcess.{ran_last}
 use Rattle.kernel_model.specs.Nodes.{stop_in, thread_of}
 use Rattle.kernel_model.specs.Traps.{Trapped, trap, trap_of_stop}
 use Rattle.kernel_model.specs.declared.Does.{Does}

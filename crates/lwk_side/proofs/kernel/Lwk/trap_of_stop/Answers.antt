@@ -1,5 +1,6 @@
 use Rattle.file_model.specs.Files.{root_only}
-use Rattle.hybrid_model.specs.Lwk.{trapped, view_here}
+use Rattle.hybrid_model.specs.OneProcess.{view_here}
+use Rattle.hybrid_model.specs.Trap.{trapped}
 use Rattle.isa_model.specs.Registers.{reg}
 use Rattle.isa_model.specs.declared.stops.Stop.{Stop}
 use Rattle.kernel_model.specs.Nodes.{thread_of}

@@ -1,4 +1,4 @@
-use Rattle.hybrid_model.specs.Events.{ack_clear}
+use Rattle.hybrid_model.specs.AckClear.{ack_clear}
 use Rattle.hybrid_model.specs.Pairs.{Here}
 use Rattle.hybrid_model.specs.declared.events.Event.TheVariants.{AckClear}
 use Rattle.pair_core.proofs.Facts.{finds, has-place, kept-put}

@@ -1,8 +1,9 @@
 use Rattle.pair_core.proofs.parts.Parts.act.Goals as goal
 use Rattle.hybrid_laws.proofs.act.Act.{may-act}
 use Rattle.hybrid_laws.proofs.maps.Tests.{both}
-use Rattle.hybrid_model.specs.Events.{act_file, has_worker}
-use Rattle.hybrid_model.specs.Linux.{may_act}
+use Rattle.hybrid_model.specs.Act.{act_file}
+use Rattle.hybrid_model.specs.Workers.{has_worker}
+use Rattle.hybrid_model.specs.Act.{may_act}
 use Rattle.hybrid_model.specs.Pairs.{Here}
 use Rattle.hybrid_model.specs.declared.events.Event.TheVariants.{Act}
 use Rattle.kernel_model.specs.Nodes.{set_files}

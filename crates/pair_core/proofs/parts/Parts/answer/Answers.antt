@@ -1,4 +1,4 @@
-use Rattle.hybrid_model.specs.Lwk.{files_after_answer, post_answer}
+use Rattle.hybrid_model.specs.Answer.{files_after_answer, post_answer}
 use Rattle.hybrid_model.specs.Pairs.{Here, ring_of, with_node, with_side}
 use Rattle.hybrid_model.specs.declared.events.Event.TheVariants.{Answer}
 use Rattle.hybrid_model.specs.Sides.{served}

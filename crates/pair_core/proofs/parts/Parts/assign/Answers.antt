@@ -1,8 +1,8 @@
 use Rattle.pair_core.proofs.parts.Parts.assign.Goals as goal
 use Rattle.hybrid_laws.proofs.assign.Assign.{may-assign}
 use Rattle.hybrid_laws.proofs.maps.Tests.{both}
-use Rattle.hybrid_model.specs.Events.{has_worker, with_linux}
-use Rattle.hybrid_model.specs.Linux.{may_assign}
+use Rattle.hybrid_model.specs.Workers.{has_worker, with_linux}
+use Rattle.hybrid_model.specs.Assign.{may_assign}
 use Rattle.hybrid_model.specs.Pairs.{Here}
 use Rattle.hybrid_model.specs.declared.events.Event.TheVariants.{Assign}
 use Rattle.pair_core.proofs.Facts.{finds, kept-put, worker-small}

@@ -1,7 +1,8 @@
 use Rattle.hybrid_laws.proofs.copy.Copy.{may-copy}
 use Rattle.hybrid_laws.proofs.maps.Tests.{both}
-use Rattle.hybrid_model.specs.Events.{copy, copy_to, has_worker}
-use Rattle.hybrid_model.specs.Linux.{may_copy, moved_by}
+use Rattle.hybrid_model.specs.Copy.{copy, copy_to}
+use Rattle.hybrid_model.specs.Workers.{has_worker}
+use Rattle.hybrid_model.specs.Copy.{may_copy, moved_by}
 use Rattle.hybrid_model.specs.Pairs.{Here}
 use Rattle.hybrid_model.specs.Sides.{no_pin}
 use Rattle.hybrid_model.specs.Spaces.{frame_bytes}

@@ -1,4 +1,4 @@
-use Rattle.hybrid_model.specs.Events.{fetch_from}
+use Rattle.hybrid_model.specs.Fetch.{fetch_from}
 use Rattle.hybrid_model.specs.Pairs.{Here, with_side}
 use Rattle.hybrid_model.specs.Rings.{head_of, rest_of, ring, with_ring}
 use Rattle.hybrid_model.specs.declared.events.Event.TheVariants.{Fetch}

@@ -1,7 +1,8 @@
 use Rattle.pair_core.proofs.parts.Parts.finish.Goals as goal
 use Rattle.hybrid_laws.proofs.maps.Tests.{both}
-use Rattle.hybrid_model.specs.Events.{finish_here, has_worker}
-use Rattle.hybrid_model.specs.Linux.{may_finish}
+use Rattle.hybrid_model.specs.Finish.{finish_here}
+use Rattle.hybrid_model.specs.Workers.{has_worker}
+use Rattle.hybrid_model.specs.Finish.{may_finish}
 use Rattle.hybrid_model.specs.Pairs.{Here, with_side}
 use Rattle.hybrid_model.specs.declared.events.Event.TheVariants.{Finish}
 use Rattle.pair_core.proofs.Facts.{finds, has-place, kept-put}

@@ -1,4 +1,4 @@
-use Rattle.hybrid_model.specs.Lwk.{take_reply}
+use Rattle.hybrid_model.specs.Intake.{take_reply}
 use Rattle.hybrid_model.specs.Rings.{rest_of as rest}
 use Rattle.hybrid_model.specs.declared.events.Event.TheVariants.{Intake}
 use Rattle.pair_core.proofs.Found.{after-is, has-row, of-process}

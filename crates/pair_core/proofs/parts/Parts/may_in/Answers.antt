@@ -1,7 +1,8 @@
 use Rattle.pair_core.proofs.parts.Parts.may_in.Goals as goal
 use Rattle.hybrid_laws.specs.EventKinds.{is_of_linux}
-use Rattle.hybrid_model.specs.Events.{has_worker, may_here}
-use Rattle.hybrid_model.specs.Lwk.{may_answer}
+use Rattle.hybrid_model.specs.Events.{may_here}
+use Rattle.hybrid_model.specs.Workers.{has_worker}
+use Rattle.hybrid_model.specs.Answer.{may_answer}
 use Rattle.hybrid_model.specs.Pairs.{Here}
 use Rattle.hybrid_model.specs.declared.events.Event.{Event}
 use Rattle.pair_core.specs.Shown.{here_in, rest_of}

@@ -1,6 +1,6 @@
 use Rattle.pair_core.proofs.parts.Parts.miss.Goals as goal
 use Rattle.hybrid_laws.proofs.miss.Miss.{may-miss}
-use Rattle.hybrid_model.specs.Events.{miss}
+use Rattle.hybrid_model.specs.Miss.{miss}
 use Rattle.hybrid_model.specs.Pairs.{Here, with_side}
 use Rattle.hybrid_model.specs.declared.events.Event.TheVariants.{Miss}
 use Rattle.lwk_node.specs.Shown.{node_of}

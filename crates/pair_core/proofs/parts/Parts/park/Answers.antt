@@ -1,6 +1,6 @@
 use Rattle.pair_core.proofs.parts.Parts.park.Goals as goal
 use Rattle.hybrid_laws.proofs.park.Park.{may-park}
-use Rattle.hybrid_model.specs.Events.{park_here}
+use Rattle.hybrid_model.specs.Park.{park_here}
 use Rattle.hybrid_model.specs.Pairs.{Here}
 use Rattle.hybrid_model.specs.declared.events.Event.TheVariants.{Park}
 use Rattle.kernel_model.specs.Nodes.{set_files}

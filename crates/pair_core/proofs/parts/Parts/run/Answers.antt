@@ -1,4 +1,4 @@
-use Rattle.hybrid_model.specs.Lwk.{executed_in_run}
+use Rattle.hybrid_model.specs.Run.{executed_in_run}
 use Rattle.hybrid_model.specs.Pairs.{here}
 use Rattle.hybrid_model.specs.declared.events.Event.TheVariants.{Run}
 use Rattle.pair_core.proofs.Found.{after-is, has-row, here-is, may-here}

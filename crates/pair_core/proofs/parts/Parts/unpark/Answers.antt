@@ -1,7 +1,7 @@
 use Rattle.pair_core.proofs.parts.Parts.unpark.Goals as goal
 use Rattle.hybrid_laws.proofs.maps.Tests.{both}
-use Rattle.hybrid_model.specs.Events.{unpark_here}
-use Rattle.hybrid_model.specs.Linux.{is_parked}
+use Rattle.hybrid_model.specs.Unpark.{unpark_here}
+use Rattle.hybrid_model.specs.Workers.{is_parked}
 use Rattle.hybrid_model.specs.Pairs.{Here}
 use Rattle.hybrid_model.specs.Sides.{state_of}
 use Rattle.hybrid_model.specs.declared.events.Event.TheVariants.{Unpark}

@@ -1,7 +1,8 @@
 use Rattle.pair_core.proofs.parts.Parts.unpin.Goals as goal
 use Rattle.hybrid_laws.proofs.maps.Tests.{both}
-use Rattle.hybrid_model.specs.Events.{has_worker}
-use Rattle.hybrid_model.specs.Linux.{has_pin, may_unpin}
+use Rattle.hybrid_model.specs.Workers.{has_worker}
+use Rattle.hybrid_model.specs.Unpin.{may_unpin}
+use Rattle.hybrid_model.specs.Workers.{has_pin}
 use Rattle.hybrid_model.specs.Pairs.{Here, with_side}
 use Rattle.hybrid_model.specs.declared.events.Event.TheVariants.{Unpin}
 use Rattle.pair_core.proofs.Facts.{finds, kept-put}

@@ -1,4 +1,4 @@
-use Rattle.hybrid_model.specs.Linux.{state_if}
+use Rattle.hybrid_model.specs.Workers.{state_if}
 use Rattle.hybrid_model.specs.Sides.{with_state}
 use Rattle.kernel_model.specs.Progress.{After}
 use Rattle.proxy_worker.proofs.Acts.{act-after, act-kind, act-linux}

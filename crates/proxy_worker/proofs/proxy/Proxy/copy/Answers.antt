@@ -1,4 +1,4 @@
-use Rattle.hybrid_model.specs.Linux.{state_if}
+use Rattle.hybrid_model.specs.Workers.{state_if}
 use Rattle.hybrid_model.specs.Sides.{with_state}
 use Rattle.kernel_model.specs.Progress.{Moved}
 use Rattle.proxy_worker.proofs.PiecesCopied.{copy-kind, copy-linux, copy-low, copy-moved, copy-there}

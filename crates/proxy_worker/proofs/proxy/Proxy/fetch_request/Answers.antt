@@ -1,4 +1,4 @@
-use Rattle.hybrid_model.specs.Linux.{fetch_request, fetched_as, new_service}
+use Rattle.hybrid_model.specs.Fetch.{fetch_request, fetched_as, new_service}
 use Rattle.proxy_worker.proofs.Parts.{service-put, with-services}
 use Rattle.proxy_worker.specs.Shown.{services_of}
 use Rattle.std.proofs.Common.{ap, ◌∙◌}

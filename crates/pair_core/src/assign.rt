@@ -1,0 +1,25 @@
+// Assign: an idle worker takes the oldest of the requests that wait.
+ghost use Rattle.hybrid_model.specs.Events.{after};
+ghost use Rattle.hybrid_model.specs.declared.events.Event.TheVariants.{Assign};
+ghost use Rattle.pair_core.specs.Kept.{Kept};
+ghost use Rattle.pair_core.specs.Ready.{Ready};
+ghost use Rattle.pair_core.specs.Shown.{pair_of};
+ghost use Rattle.std.specs.Prelude.{◌≡◌};
+
+use crate::parts::Parts;
+use file_calls::store::FileStore;
+use mck_word::Pid;
+use page_map::PageTable;
+
+impl<T: PageTable + Drop, F: FileStore> Parts<T, F> {
+    /// The idle worker takes the oldest of the requests that wait.
+    pub fn assign(&mut self, p: Pid, w: u32)
+        requires ready { Ready (pair_of T.rows F.files self.old) (Assign p w) }
+        requires kept { Kept self.old }
+        ensures after { pair_of T.rows F.files self.new ≡ after (pair_of T.rows F.files self.old) (Assign p w) }
+        ensures kept { Kept self.new }
+    {
+        let side = self.sides.row_mut(p.0 as u64);
+        side.proxy.assign(w, &mut side.channel.book);
+    }
+}

@@ -1,0 +1,27 @@
+// Miss: a worker finds no row for its next piece, and faults.
+ghost use Rattle.hybrid_model.specs.Events.{after};
+ghost use Rattle.hybrid_model.specs.declared.events.Event.TheVariants.{Miss};
+ghost use Rattle.pair_core.specs.Kept.{Kept};
+ghost use Rattle.pair_core.specs.Ready.{Ready};
+ghost use Rattle.pair_core.specs.Shown.{pair_of};
+ghost use Rattle.std.specs.Prelude.{◌≡◌};
+
+use crate::parts::Parts;
+use file_calls::store::FileStore;
+use mck_word::Pid;
+use page_map::PageTable;
+
+impl<T: PageTable + Drop, F: FileStore> Parts<T, F> {
+    /// The worker gives up its turn and faults: its request awaits a row.
+    pub fn miss(&mut self, p: Pid, w: u32)
+        requires ready { Ready (pair_of T.rows F.files self.old) (Miss p w) }
+        requires kept { Kept self.old }
+        ensures after { pair_of T.rows F.files self.new ≡ after (pair_of T.rows F.files self.old) (Miss p w) }
+        ensures kept { Kept self.new }
+    {
+        let side = self.sides.row_mut(p.0 as u64);
+        side.proxy.give_up_turn(w, &self.files, p, &mut self.turns);
+        let fault = side.proxy.miss(w, &mut side.channel.book);
+        side.channel.to_lwk.post(fault);
+    }
+}
