@@ -1,0 +1,11 @@
+//! Tests of texts: assembler and its listing, jobs, reports, traces, checks and statuses.
+//!
+//! Promises nothing of its own: a module has the tests of the crate that its name begins with.
+#![tactic(auto)]
+
+#[cfg(test)]
+mod guest_asm_tests;
+#[cfg(test)]
+mod job_text_tests;
+#[cfg(test)]
+mod mck_report_tests;
