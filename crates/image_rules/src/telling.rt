@@ -40,7 +40,7 @@ fn tell_image(alloc: Global, image: &Image) -> Result<String, AllocError> {
     Ok(told)
 }
 
-/// The image and the size of the file that is written of it, or the first rule that is broken.
+/// The image and the size of the file that is written of it, with whether it is the same file, or the first rule that is broken.
 pub fn tell(alloc: Global, bytes: &[u8]) -> Result<String> {
     let image = match load(alloc, bytes) {
         Ok(image) => image,
@@ -49,11 +49,13 @@ pub fn tell(alloc: Global, bytes: &[u8]) -> Result<String> {
     let mut told = tell_image(alloc, &image)?;
     let file = write(alloc, &image).map_err(ElfError::from)?;
     let again = load(alloc, file.as_slice())?;
-    let line = if same_image(&image, &again) {
-        format!(in alloc; "written to {} bytes\n", file.len())?
-    } else {
-        String::from_str(alloc, "written to another image\n")?
-    };
+    told.push_str("written to ")?;
+    if !same_image(&image, &again) {
+        told.push_str("another image, of ")?;
+    } else if file.as_slice() == bytes {
+        told.push_str("the same ")?;
+    }
+    let line = format!(in alloc; "{} bytes\n", file.len())?;
     told.push_str(line.as_str())?;
     Ok(told)
 }

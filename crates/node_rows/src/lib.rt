@@ -8,6 +8,8 @@ mod forks;
 #[cfg(test)]
 mod guests;
 #[cfg(test)]
+mod mcexec_tests;
+#[cfg(test)]
 mod outside_faults;
 #[cfg(test)]
 mod runs;
