@@ -21,8 +21,3 @@ pub use job_model::{Image, Segment, Segments};
 pub use loading::load;
 pub use placed::Placed;
 pub use writing::write;
-
-#[cfg(test)]
-mod tests;
-#[cfg(test)]
-mod writing_tests;

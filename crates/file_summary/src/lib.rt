@@ -9,6 +9,3 @@ mod path_rows;
 
 pub use console_rows::outputs;
 pub use path_rows::paths;
-
-#[cfg(test)]
-mod tests;

@@ -27,6 +27,3 @@ pub use layout::Layout;
 pub use listing_text::listing;
 pub use marks::Mark;
 pub use numbers::Number;
-
-#[cfg(test)]
-mod tests;

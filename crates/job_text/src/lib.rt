@@ -22,6 +22,3 @@ pub use job_model::{
 };
 pub use order::{Source, SourceKind, sources};
 pub use read::read_job;
-
-#[cfg(test)]
-mod tests;

@@ -11,8 +11,6 @@ mod order;
 mod room;
 mod sizes;
 mod stack;
-#[cfg(test)]
-mod tests;
 
 pub use load::load_guest;
 pub use sizes::{heap_base, needed_frames, segment_range};

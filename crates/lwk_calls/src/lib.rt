@@ -32,33 +32,3 @@ pub use masks::{sigpending, sigprocmask};
 pub use own::{answers_zero, getpid, getppid, gettid, sets_clear_address, sets_robust_list};
 pub use sends::{kill, tgkill};
 pub use waiting::{wait4, waited};
-
-#[cfg(test)]
-mod signal_tests;
-
-#[cfg(test)]
-mod tests {
-    use super::*;
-    use lwk_node::Node;
-    use mck_flags::SigSet;
-    use mck_word::{Pid, Regs, Tid};
-
-    #[test]
-    fn a_thread_tells_its_numbers(rt: HostRuntime) {
-        let mut node = Node::new(rt.alloc(), 4, 100);
-        let has_room = node.reserve_thread().is_ok();
-        assert!(rt; has_room);
-        let regs = Regs { pc: 64, x: [0; 32] };
-        node.begin_thread(Pid(1), Tid(2), regs, SigSet(0), 0);
-        getpid(&mut node, Tid(2));
-        assert_eq!(rt; node.regs(Tid(2)).x[10], 1);
-        gettid(&mut node, Tid(2));
-        assert_eq!(rt; node.regs(Tid(2)).x[10], 2);
-        getppid(&mut node, Tid(2));
-        assert_eq!(rt; node.regs(Tid(2)).x[10], 0);
-        sets_clear_address(&mut node, Tid(2), 72);
-        assert_eq!(rt; node.clear_address(Tid(2)), 72);
-        sets_robust_list(&mut node, Tid(2), 8);
-        assert_eq!(rt; node.regs(Tid(2)).x[10], 0xffff_ffff_ffff_ffea);
-    }
-}

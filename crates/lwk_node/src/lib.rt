@@ -24,6 +24,3 @@ mod waits;
 pub use process_rows::{Process, Processes};
 pub use script_lines::ScriptLine;
 pub use tables::Node;
-
-#[cfg(test)]
-mod tests;

@@ -120,6 +120,3 @@ pub fn take_signal(signal: u32, own: SigSet, shared: SigSet) -> (SigSet, SigSet)
         (own, without_signal(signal, shared))
     }
 }
-
-#[cfg(test)]
-mod tests;

@@ -304,6 +304,3 @@ pub fn core_of(tid: Tid, cores: u32) -> u32
 pub fn clone_is_the_call<S>()
     ensures { (does : S → Does) (node : Node) (t : Threads S) (x : ThreadOf S) (args : List ℕ) (state : S) → node.threads ≡ shown_threads does t → does state ≡ Ready → cloned_thread node (shown does x) (slice_index args 0) (slice_index args 1) (slice_index args 3) (slice_index args 4) ≡ shown does (cloned args state x t) }
 {}
-
-#[cfg(test)]
-mod tests;

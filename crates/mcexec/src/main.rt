@@ -97,6 +97,3 @@ fn main(rt: HostRuntime) -> ExitCode {
     tell(&rt, &status);
     exit_code(&status)
 }
-
-#[cfg(test)]
-mod tests;

@@ -10,8 +10,6 @@ mod reading;
 mod report_text;
 mod status;
 mod status_text;
-#[cfg(test)]
-mod tests;
 mod trace_text;
 mod writing;
 

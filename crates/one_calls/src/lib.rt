@@ -43,6 +43,3 @@ pub use raising::raises;
 pub use sends::{kill, tgkill};
 pub use traps::{calls_fork, names_fork, trap, traps_locally};
 pub use waiting::{wait4, waited};
-
-#[cfg(test)]
-mod tests;

@@ -65,6 +65,3 @@ impl RowFiles {
         })
     }
 }
-
-#[cfg(test)]
-mod tests;

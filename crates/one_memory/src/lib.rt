@@ -186,21 +186,3 @@ impl PageRows {
         }
     }
 }
-
-#[cfg(test)]
-mod tests {
-    use super::*;
-
-    #[test]
-    fn no_page_has_no_bytes(rt: HostRuntime) {
-        let mut memory = PageRows::new(rt.alloc());
-        let mut bytes = [7; 3];
-        assert!(rt; memory.can_read(64, 0));
-        assert!(rt; !memory.can_read(64, 1));
-        assert!(rt; !memory.can_write(u64::MAX, 2));
-        assert!(rt; !memory.read_into(0xfff, &mut bytes));
-        assert_eq!(rt; bytes, [7; 3]);
-        assert!(rt; !memory.try_store(0xfff, &bytes));
-        assert!(rt; memory.try_store(0xfff, &[]));
-    }
-}

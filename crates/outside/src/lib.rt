@@ -8,8 +8,6 @@
 mod host;
 mod put;
 mod sink;
-#[cfg(test)]
-mod tests;
 
 pub use host::{Fetch, Host, MemHost, Named, SureHost};
 pub use put::put_all;

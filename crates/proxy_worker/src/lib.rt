@@ -29,6 +29,3 @@ pub use proxy::Proxy;
 pub use services::Service;
 pub use turns::{Turn, Turns};
 pub use workers::Workers;
-
-#[cfg(test)]
-mod tests;

@@ -7,8 +7,6 @@
 
 mod file_host;
 mod std_sink;
-#[cfg(test)]
-mod tests;
 
 pub use file_host::FsHost;
 pub use std_sink::StdSink;

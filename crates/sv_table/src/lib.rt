@@ -11,8 +11,6 @@ mod node;
 mod nodes;
 mod pages;
 mod room;
-#[cfg(test)]
-mod tests;
 mod words;
 
 ghost use Rattle.mck_word.specs.Maps.{at};
