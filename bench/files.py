@@ -1,7 +1,7 @@
 #!/usr/bin/env python3
 """Measures the store of files: the time of a call and of a byte, with 10 and with 1,000 files in the tree.
 
-Builds crates/file_times. A round of its work `calls` opens a new file, sets its place, takes its name away and closes it; a round of `bytes`
+Builds crates/time_files. A round of its work `calls` opens a new file, sets its place, takes its name away and closes it; a round of `bytes`
 writes 64 KiB in pieces of 4 KiB and reads them back as well. Prints the processor time of one of the four calls, and, from what the two
 works differ by, of a byte that is written and read, and each with 1,000 files over that with 10. It stops if the two trees come to
 different checksums, since no answer of these calls depends on what else the tree has.
@@ -33,7 +33,7 @@ def nanoseconds(program, work, files, tries):
 
 def main():
     tries = int(sys.argv[1]) if len(sys.argv) > 1 else 7
-    program = programs.build("file_times", "bytes", "10", "3")
+    program = programs.build("time_files", "bytes", "10", "3")
     for work in ROUNDS:
         if run(program, work, FEW, 3)[1] != run(program, work, MANY, 3)[1]:
             sys.exit("%s: the two trees came to different checksums" % work)

@@ -10,15 +10,15 @@ import sys
 import tempfile
 
 TOP = os.path.dirname(os.path.dirname(os.path.abspath(__file__)))
-CRATE = os.path.join(TOP, "crates", "guest_loops")
+CRATE = os.path.join(TOP, "crates", "time_loops")
 
 
 def build_proved():
-    """Proves and builds the program; its file is out/guest_loops."""
+    """Proves and builds the program; its file is out/time_loops."""
     told = subprocess.run(["rt", "run"], cwd=CRATE, text=True, stdout=subprocess.PIPE, stderr=subprocess.STDOUT)
     if told.returncode != 0:
         sys.exit(told.stdout + "the program was not built")
-    return os.path.join(CRATE, "out", "guest_loops")
+    return os.path.join(CRATE, "out", "time_loops")
 
 
 def build_plain(folder):

@@ -1,5 +1,5 @@
 // A plain interpreter of RV64I to compare with: a table of pages with rights, and a switch on the opcode and funct3.
-// It runs the same loops as crates/guest_loops and prints the same lines, with the microseconds.
+// It runs the same loops as crates/time_loops and prints the same lines, with the microseconds.
 #include <stdint.h>
 #include <stdio.h>
 #include <stdlib.h>

@@ -1,7 +1,7 @@
 #!/usr/bin/env python3
 """Measures page tables: the time of a look-up and of a page that is mapped and unmapped, with 16 and with 16,000 pages.
 
-Builds crates/table_times and prints for the table of three levels and for the sorted list the processor time a look-up and a page, and
+Builds crates/time_tables and prints for the table of three levels and for the sorted list the processor time a look-up and a page, and
 that with 16,000 pages over that with 16. It stops if the two tables come to different checksums.
 """
 import sys
@@ -32,7 +32,7 @@ def nanoseconds(program, table, work, pages, rounds, tries):
 
 def main():
     tries = int(sys.argv[1]) if len(sys.argv) > 1 else 7
-    program = programs.build("table_times", "levels", "map", "16", "3")
+    program = programs.build("time_tables", "levels", "map", "16", "3")
     for work in ("look", "map"):
         for pages in (FEW, MANY):
             if run(program, "levels", work, pages, 3)[1] != run(program, "list", work, pages, 3)[1]:

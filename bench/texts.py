@@ -1,7 +1,7 @@
 #!/usr/bin/env python3
 """Measures how long assembler texts and jobs take to read, at a tenth of a size and at the whole of it.
 
-Builds crates/text_sizes and prints the processor time a byte, and that of the whole over that of the tenth: near 1 where reading is linear.
+Builds crates/time_texts and prints the processor time a byte, and that of the whole over that of the tenth: near 1 where reading is linear.
 """
 import programs
 
@@ -20,7 +20,7 @@ def per_round(program, kind, size, rounds):
 
 
 def main():
-    program = programs.build("text_sizes", "assemble", "100000", "1")
+    program = programs.build("time_texts", "assemble", "100000", "1")
     print("%-10s %9s %12s %14s %7s" % ("text", "lines", "bytes", "ns a byte", "whole/tenth"))
     for kind, tenth, whole, rounds in (("assemble", 10000, 100000, 10), ("listing", 10000, 100000, 10), ("job", 1, 10, 20)):
         small, small_bytes = per_round(program, kind, tenth, rounds * 10)

@@ -1,7 +1,7 @@
 #!/usr/bin/env python3
 """Compares decode and encode with a cross assembler, over all instructions with random fields.
 
-Assembles them with llvm-mc, gives the words to the program crates/guest_words, and looks whether each word says the fields
+Assembles them with llvm-mc, gives the words to the program crates/rows_encodings, and looks whether each word says the fields
 that were assembled and is made again of them. Instructions that are left out have to be none. Skipped where llvm-mc for riscv64 is not
 installed.
 """
@@ -14,7 +14,7 @@ import sys
 import tempfile
 
 TOP = os.path.dirname(os.path.dirname(os.path.abspath(__file__)))
-CRATE = os.path.join(TOP, "crates", "guest_words")
+CRATE = os.path.join(TOP, "crates", "rows_encodings")
 
 REGISTERS = "add sub sll slt sltu xor srl sra or and addw subw sllw srlw sraw".split()
 IMMEDIATES = "addi slti sltiu xori ori andi addiw".split()
@@ -96,7 +96,7 @@ def main():
     if built.returncode != 0:
         sys.exit(built.stdout + "the program was not built")
     given = "".join("%08x\n" % w for w in words)
-    program = os.path.join(CRATE, "out", "guest_words")
+    program = os.path.join(CRATE, "out", "rows_encodings")
     told = subprocess.run([program], input=given, text=True, check=True, stdout=subprocess.PIPE).stdout.splitlines()
     wrong = 0
     for (text, says), word, line in zip(rows, words, told):

@@ -3,9 +3,9 @@
 # first have to, and the second have to be refused by their flags. Prints `skipped` where no compiler is installed.
 set -eu
 here=$(cd "$(dirname "$0")" && pwd)
-program="$here/../crates/image_rules/out/image_rules"
+program="$here/../crates/rows_images/out/rows_images"
 if [ ! -x "$program" ]; then
-    (cd "$here/../crates/image_rules" && rt run -- table <stdin >/dev/null)
+    (cd "$here/../crates/rows_images" && rt run -- table <stdin >/dev/null)
 fi
 folder=$(mktemp -d)
 trap 'rm -rf "$folder"' EXIT

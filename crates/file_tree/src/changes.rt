@@ -14,7 +14,7 @@ ghost use Rattle.mck_word.specs.Maps.{at, change, no_rows, put};
 
 use crate::counts::Counts;
 use crate::index::{Listed, TagRef, place_of};
-use crate::node::Node;
+use crate::node::FileNode;
 use crate::nodes::Nodes;
 use crate::tree::{Tree, len_of};
 use mck_word::NoMemory;
@@ -188,7 +188,7 @@ impl Tree {
         self.bytes += bytes.len() as u64;
         let key = self
             .nodes
-            .add(Node::new(node, directory, name, is_directory, bytes));
+            .add(FileNode::new(node, directory, name, is_directory, bytes));
         insert_reserved(&mut self.names, i, Listed { node, key });
     }
 

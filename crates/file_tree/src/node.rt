@@ -45,7 +45,7 @@ impl ShortName {
 
 /// A file or directory with its number, seen as the definition's beside `number` and `room`, how many bytes it has memory for.
 #[derive(Drop)]
-pub struct Node {
+pub struct FileNode {
     number: u64,
     parent: u64,
     name: Option<ShortName>,
@@ -53,7 +53,7 @@ pub struct Node {
     bytes: Vec<u8>,
 }
 
-impl Model for Node {
+impl Model for FileNode {
     ghost use Rattle.std.specs.Vec.{vec_capacity};
     ghost use Rattle.file_tree.specs.Codes.{node_code};
     ghost use Rattle.file_tree.specs.Tables.{NodeRow};
@@ -65,14 +65,14 @@ impl Model for Node {
     ghost view = { λ n. record { number = n.number; inode = record { parent = n.parent; name = n.name; directory = n.directory; bytes = n.bytes.items }; room = vec_capacity n.bytes } };
 }
 
-impl Node {
+impl FileNode {
     /// A file with those bytes, or a directory, with a name in a directory. Takes no memory.
-    pub fn new(number: u64, parent: u64, name: &[u8], directory: bool, bytes: Vec<u8>) -> Node
+    pub fn new(number: u64, parent: u64, name: &[u8], directory: bool, bytes: Vec<u8>) -> FileNode
         requires { length name.now ≤ 255 }
         ensures number { result.number ≡ number }
         ensures inode { result.inode ≡ record { parent = parent; name = Some name.now; directory = directory; bytes = bytes.items } }
     {
-        Node {
+        FileNode {
             number,
             parent,
             name: Some(ShortName::new(name)),
@@ -82,11 +82,11 @@ impl Node {
     }
 
     /// The root, which stands in itself. Takes no memory.
-    pub fn root(alloc: Global) -> Node
+    pub fn root(alloc: Global) -> FileNode
         ensures number { result.number ≡ 1 }
         ensures inode { result.inode ≡ empty_directory 1 None }
     {
-        Node {
+        FileNode {
             number: 1,
             parent: 1,
             name: None,

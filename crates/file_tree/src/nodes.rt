@@ -6,7 +6,7 @@ ghost use Rattle.file_tree.specs.Tables.{NodeRow};
 ghost use Rattle.mck_word.specs.Lists.{spliced};
 ghost use Rattle.mck_word.specs.Maps.{at, change, count, cut, keys, no_rows, put};
 
-use crate::node::Node;
+use crate::node::FileNode;
 use key_rows::Rows;
 use mck_word::NoMemory;
 use slab::Slab;
@@ -19,7 +19,7 @@ const MOST_NUMBERS: u64 = 4_294_967_296;
 /// The nodes by their numbers, which never come again. A node stays where it stands while others come and go.
 #[derive(Drop)]
 pub struct Nodes {
-    slab: Slab<Node>,
+    slab: Slab<FileNode>,
     keys: Rows<usize>,
     next: u64,
 }
@@ -58,12 +58,12 @@ impl Nodes {
             next: 1,
         };
         nodes.reserve(1)?;
-        nodes.add(Node::root(alloc));
+        nodes.add(FileNode::root(alloc));
         Ok(nodes)
     }
 
     /// The node of that number.
-    pub fn get(&self, n: u64) -> Option<&Node>
+    pub fn get(&self, n: u64) -> Option<&FileNode>
         ensures inode { option_map (λ (r : NodeRow). r.inode) (option_copied result) ≡ at self.now.map n }
         ensures room { option_map (λ (r : NodeRow). r.room) (option_copied result) ≡ at self.now.rooms n }
     {
@@ -81,7 +81,7 @@ impl Nodes {
     }
 
     /// The node that stands there.
-    pub fn stored(&self, key: usize) -> Option<&Node>
+    pub fn stored(&self, key: usize) -> Option<&FileNode>
         ensures { (n : ℕ) → at self.now.keys n ≡ Some key → option_map (λ (r : NodeRow). r.inode) (option_copied result) ≡ at self.now.map n }
     {
         self.slab.get(key)
@@ -129,7 +129,7 @@ impl Nodes {
     }
 
     /// Adds a node under the next number, and answers where it stands.
-    pub fn add(&mut self, node: Node) -> usize
+    pub fn add(&mut self, node: FileNode) -> usize
         requires room { 1 ≤ self.old.spare }
         requires number { node.number ≡ self.old.next }
         ensures fresh { at self.old.map self.old.next ≡ None }

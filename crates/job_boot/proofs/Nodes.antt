@@ -6,8 +6,8 @@ use Rattle.job_boot.specs.Guests.{IsBefore, begun, new_process, new_thread, with
 use Rattle.job_model.specs.declared.job.Job.{Job}
 use Rattle.kernel_model.specs.Nodes.{Node, Process, Thread, threads_of}
 use Rattle.kernel_model.specs.OneKernel.{first_free_number}
-use Rattle.lwk_node.specs.Shown.{node_of}
-use Rattle.lwk_node.specs.declared.tables.Node.{Node as Tables}
+use Rattle.kernel_tables.specs.Shown.{node_of}
+use Rattle.kernel_tables.specs.declared.tables.KernelTables.{KernelTables as Tables}
 use Rattle.mck_word.specs.MapLaws.{at-none, at-put}
 use Rattle.mck_word.specs.Maps.{Map, at, entries, put}
 use Rattle.mck_word.specs.declared.Regs.{Regs}

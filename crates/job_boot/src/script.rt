@@ -2,10 +2,10 @@
 ghost use Rattle.std.specs.Prelude.{◌≡◌, All, IfOk, length, map};
 ghost use Rattle.job_model.specs.Prepared.{IsForGuest, IsWithin};
 ghost use Rattle.kernel_model.specs.OneKernel.{script_lines};
-ghost use Rattle.lwk_node.specs.Shown.{shown_line};
+ghost use Rattle.kernel_tables.specs.Shown.{shown_line};
 
 use job_model::{Job, SignalLine};
-use lwk_node::ScriptLine;
+use kernel_tables::ScriptLine;
 use mck_word::{NoMemory, Pid};
 use std::alloc::Global;
 

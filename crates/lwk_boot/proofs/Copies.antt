@@ -4,7 +4,7 @@ use Rattle.isa_model.specs.Memory.{Memory, Page}
 use Rattle.kernel_model.specs.Layout.{page_with}
 use Rattle.kernel_model.specs.Spaces.{each_page}
 use Rattle.lwk_boot.specs.Guests.{from_page}
-use Rattle.lwk_tables.specs.Fills.{fill_page, placed}
+use Rattle.lwk_space.specs.Fills.{fill_page, placed}
 use Rattle.mck_flags.specs.declared.rights.Rights.{Rights}
 use Rattle.mck_word.specs.MapLaws.{at-keep, at-none, at-put, same_rows}
 use Rattle.mck_word.specs.Maps.{Map, at, entries, no_rows, put}

@@ -11,8 +11,8 @@ use Rattle.lwk_boot.proofs.Copies.{at-other, at-same}
 use Rattle.lwk_boot.proofs.TopBytes.{length-written}
 use Rattle.lwk_boot.specs.Guests.{AreArguments, HasSegments, first_page, last_end, no_segment, segment_at, stack_first, stack_last, trampoline_page}
 use Rattle.lwk_boot.specs.Top.{strings_place, top_address, top_page, words_place}
-use Rattle.lwk_tables.proofs.BytesWritten.{write-in-page}
-use Rattle.lwk_tables.specs.Fills.{placed}
+use Rattle.lwk_space.proofs.BytesWritten.{write-in-page}
+use Rattle.lwk_space.specs.Fills.{placed}
 use Rattle.mck_word.specs.Lists.{count_from}
 use Rattle.mck_word.specs.MapLaws.{at-none}
 use Rattle.mck_word.specs.Maps.{at, no_rows, put}

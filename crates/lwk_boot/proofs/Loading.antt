@@ -15,7 +15,7 @@ use Rattle.lwk_boot.specs.Guests.{AreArguments, HasSegments, first_page, from_pa
 use Rattle.lwk_boot.specs.Loads.{HasIn, HasTop, trampoline_address, trampoline_bytes}
 use Rattle.lwk_boot.specs.Order.{AreBefore, IsNext, NoneLeft}
 use Rattle.lwk_boot.specs.Top.{top_address, top_page}
-use Rattle.lwk_tables.specs.Fills.{fill_page, placed}
+use Rattle.lwk_space.specs.Fills.{fill_page, placed}
 use Rattle.mck_flags.specs.declared.rights.Rights.{Rights}
 use Rattle.mck_word.specs.Maps.{at, entries}
 use Rattle.mck_word.specs.declared.PageRange.{PageRange}

@@ -6,7 +6,7 @@ use Rattle.kernel_model.specs.Layout.{page_with}
 use Rattle.kernel_model.specs.MemoryCalls.{rights_of_prot}
 use Rattle.lwk_boot.specs.Guests.{stack_first, stack_last, trampoline_page}
 use Rattle.lwk_boot.specs.Top.{top_page}
-use Rattle.lwk_tables.specs.Fills.{placed}
+use Rattle.lwk_space.specs.Fills.{placed}
 use Rattle.mck_flags.specs.declared.rights.Rights.{Rights}
 use Rattle.mck_word.specs.Maps.{Map, at}
 use Rattle.mck_word.specs.declared.PageRange.{PageRange}

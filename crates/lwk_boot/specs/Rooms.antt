@@ -2,7 +2,7 @@
 use Rattle.job_model.specs.declared.image.Segment.{Segment}
 use Rattle.kernel_model.specs.Pages.{pages_of, range}
 use Rattle.lwk_boot.specs.Guests.{first_page, segment_at, stack_first}
-use Rattle.lwk_tables.specs.Rows.{LiesIn}
+use Rattle.lwk_space.specs.Rows.{LiesIn}
 use Rattle.mck_word.specs.declared.PageRange.{PageRange}
 use Rattle.std.specs.Prelude.{List, [], ◌∷◌, length, ℕ, ◌<◌, ◌^◌, ◌≤◌}
 

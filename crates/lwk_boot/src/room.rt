@@ -9,7 +9,7 @@ ghost use Rattle.std.specs.Prelude.{◌≡◌, ◌≤◌, ◌+◌, IfOk, length}
 use crate::order::next_segment;
 use crate::sizes::{heap_base, segment_range};
 use job_model::Image;
-use lwk_tables::Space;
+use lwk_space::Space;
 use mck_word::{NoMemory, PageRange};
 use page_map::PageTable;
 use std::alloc::Global;

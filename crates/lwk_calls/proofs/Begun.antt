@@ -5,7 +5,7 @@ use Rattle.kernel_model.specs.LocalCalls.{answers}
 use Rattle.kernel_model.specs.Nodes.{Node as KernelNode, answered, thread_of}
 use Rattle.kernel_model.specs.Signals.{View, on_node, try_store, view}
 use Rattle.lwk_calls.specs.Words.{told}
-use Rattle.lwk_tables.specs.Lacks.{memory}
+use Rattle.lwk_space.specs.Lacks.{memory}
 use Rattle.lwk_views.proofs.Doing.{Stands, begins, steps, tries}
 use Rattle.mck_word.specs.Maps.{Map}
 use Rattle.mck_word.specs.Words.{has_bit, little_endian}

@@ -5,9 +5,9 @@ use Rattle.isa_model.specs.Memory.{Memory, may_access, read_bytes}
 use Rattle.kernel_model.specs.Nodes.{Node as KernelNode}
 use Rattle.kernel_model.specs.Signals.{View, on_node, store, stored_all, view}
 use Rattle.lwk_calls.specs.SignalWords.{put_at, readable, stores_at, writable}
-use Rattle.lwk_node.specs.declared.tables.Node.{Node}
-use Rattle.lwk_tables.specs.Frames.{frames_map}
-use Rattle.lwk_tables.specs.Lacks.{memory}
+use Rattle.kernel_tables.specs.declared.tables.KernelTables.{KernelTables}
+use Rattle.lwk_space.specs.Frames.{frames_map}
+use Rattle.lwk_space.specs.Lacks.{memory}
 use Rattle.lwk_views.proofs.Doing.{Stands, stores}
 use Rattle.lwk_views.proofs.Reading.{tried_done}
 use Rattle.lwk_views.specs.Views.{Did, Stepped, read_or, tried}
@@ -38,7 +38,7 @@ module _ (rows : Map Row) (pages : List (List ℕ)) where
       go false may e = stores rows pages address bytes node left next v (e ∙ tried_done (memory rows left) address bytes may) h
 
   -- the node is stepped, and a word goes on from there
-  pub did_after : (before middle after : Node) (left : List (List ℕ)) (f : KernelNode → KernelNode) (word : View → View)
+  pub did_after : (before middle after : KernelTables) (left : List (List ℕ)) (f : KernelNode → KernelNode) (word : View → View)
       → Stepped before middle f → Did rows middle pages after left word → Did rows before pages after left (λ v. word (on_node f v))
   did_after before middle after left f word step d = record {
     node = λ files. d.node files ∙ ap (λ (k : KernelNode). (word (view k (memory rows pages))).node) (step files);

@@ -9,7 +9,7 @@ use Rattle.kernel_model.specs.Nodes.{most_threads, thread_of, threads_of}
 use Rattle.kernel_model.specs.SignalSets.{minus}
 use Rattle.kernel_model.specs.Signals.{View, on_node}
 use Rattle.lwk_calls.specs.Words.{clone_refusal, other_word, unless_refused, wait4_refusal, wait_refusal, waits}
-use Rattle.lwk_node.specs.declared.tables.Node.{Node}
+use Rattle.kernel_tables.specs.declared.tables.KernelTables.{KernelTables}
 use Rattle.lwk_views.proofs.Doing.{did_as}
 use Rattle.lwk_views.specs.Views.{Did, seen}
 use Rattle.mck_word.specs.Maps.{Map}
@@ -56,7 +56,7 @@ wait4_is t pid status options rusage v = go (minus options 11 == 0) (rusage == 0
     go true false = refl
     go true true = refl
 
-module _ (rows : Map Row) (pages : List (List ℕ)) (before after : Node) (left : List (List ℕ)) (t : ℕ) (word rest : View → View) (refusal : View → Option ℤ)
+module _ (rows : Map Row) (pages : List (List ℕ)) (before after : KernelTables) (left : List (List ℕ)) (t : ℕ) (word rest : View → View) (refusal : View → Option ℤ)
     (is : (v : View) → word v ≡ unless_refused t (refusal v) rest v) where
   pub refused_did : (given answer : ℤ) → given ≡ answer → ((files : Files) → refusal (seen rows before pages files) ≡ Some answer) → Did rows before pages after left (answers t given) → Did rows before pages after left word
   refused_did given answer same e h =

@@ -1,9 +1,9 @@
 // rt_sigaction: what a process does at a signal.
 ghost use Rattle.kernel_model.specs.SignalCalls.{action_bytes, is_signal, nat_of, sets_action, sigaction};
 ghost use Rattle.lwk_calls.specs.SignalWords.{action_refusal, asked_action, given_action, is_wrong_action, put_at, readable, writable};
-ghost use Rattle.lwk_node.specs.Room.{KeepsRoom};
-ghost use Rattle.lwk_tables.specs.Lacks.{OthersStay, memory};
-ghost use Rattle.lwk_tables.specs.Rows.{FramesApart, FramesIn};
+ghost use Rattle.kernel_tables.specs.Room.{KeepsRoom};
+ghost use Rattle.lwk_space.specs.Lacks.{OthersStay, memory};
+ghost use Rattle.lwk_space.specs.Rows.{FramesApart, FramesIn};
 ghost use Rattle.lwk_views.specs.Views.{Did, Stepped};
 ghost use Rattle.std.specs.Prelude.{◌≡◌, ◌≤◌, List, length, true, ℕ};
 
@@ -11,9 +11,9 @@ use crate::answering::{EFAULT, EINVAL, answers};
 use crate::pointers::{lacks_access, store_at};
 use frame_mem::FrameMem;
 use kernel_model::Action;
-use lwk_node::Node;
+use kernel_tables::KernelTables;
 use lwk_signals::{ACTION_SIZE, action_in, put_action};
-use lwk_tables::Space;
+use lwk_space::Space;
 use lwk_views::read_into;
 use mck_word::{Pid, Tid};
 use page_map::PageTable;
@@ -86,7 +86,7 @@ fn store_action<T: PageTable>(space: &Space<T>, mem: &mut FrameMem, old: u64, a:
 }
 
 /// The process does something else at the signal, where an action is given; what it ignores from now on is dropped.
-fn give_action(node: &mut Node, p: Pid, signal: u32, action: Option<Action>)
+fn give_action(node: &mut KernelTables, p: Pid, signal: u32, action: Option<Action>)
     requires least { 1 ≤ signal }
     requires most { signal ≤ 64 }
     ensures is { Stepped node.old node.new (given_action p.0 signal action) }
@@ -100,7 +100,7 @@ fn give_action(node: &mut Node, p: Pid, signal: u32, action: Option<Action>)
 
 /// An rt_sigaction that isn't refused.
 fn sets_action<T: PageTable>(
-    node: &mut Node,
+    node: &mut KernelTables,
     space: &Space<T>,
     mem: &mut FrameMem,
     t: Tid,
@@ -127,7 +127,7 @@ fn sets_action<T: PageTable>(
 
 /// rt_sigaction: the action of the signal is told, and another one is given in its place, each where it is asked for.
 pub fn sigaction<T: PageTable>(
-    node: &mut Node,
+    node: &mut KernelTables,
     space: &Space<T>,
     mem: &mut FrameMem,
     t: Tid,

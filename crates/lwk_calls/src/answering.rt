@@ -1,12 +1,12 @@
 // Answers and refusals, and what is read of arguments.
 ghost use Rattle.kernel_model.specs.LocalCalls.{answers};
 ghost use Rattle.kernel_model.specs.SignalSets.{minus};
-ghost use Rattle.lwk_node.specs.Room.{KeepsRoom};
+ghost use Rattle.kernel_tables.specs.Room.{KeepsRoom};
 ghost use Rattle.lwk_views.specs.Views.{DidAlone};
 ghost use Rattle.mck_word.specs.Words.{has_bit};
 ghost use Rattle.std.specs.Prelude.{◌≡◌, ◌<◌};
 
-use lwk_node::Node;
+use kernel_tables::KernelTables;
 use mck_word::Tid;
 
 // The refusals of the calls: negated error numbers.
@@ -23,7 +23,7 @@ pub const EINVAL: i64 = -22;
 pub const ENOSYS: i64 = -38;
 
 /// The thread gets its answer, and is Ready.
-pub fn answers(node: &mut Node, t: Tid, answer: i64)
+pub fn answers(node: &mut KernelTables, t: Tid, answer: i64)
     ensures did { DidAlone node.old node.new (answers t.0 answer) }
     ensures room { KeepsRoom node.old node.new }
 {

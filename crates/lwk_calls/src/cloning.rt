@@ -3,16 +3,16 @@ ghost use Rattle.file_model.specs.Files.{Files};
 ghost use Rattle.kernel_model.specs.CloneCalls.{are_clone_flags, clone, clones};
 ghost use Rattle.kernel_model.specs.Nodes.{has_thread, most_threads, thread_of, threads_of};
 ghost use Rattle.lwk_calls.specs.Words.{clone_refusal};
-ghost use Rattle.lwk_node.specs.Shown.{node_of};
-ghost use Rattle.lwk_tables.specs.Rows.{FramesApart, FramesIn};
+ghost use Rattle.kernel_tables.specs.Shown.{node_of};
+ghost use Rattle.lwk_space.specs.Rows.{FramesApart, FramesIn};
 ghost use Rattle.lwk_views.specs.Views.{Did};
 ghost use Rattle.std.specs.Prelude.{◌≡◌, ◌≤◌, ◌<◌, ◌+◌, ◌-◌, ◌^◌, IsTrue, length, slice_index};
 
 use crate::answering::{EAGAIN, EINVAL, answers, has_bit, minus};
 use crate::numbers::tells_number;
 use frame_mem::FrameMem;
-use lwk_node::Node;
-use lwk_tables::Space;
+use kernel_tables::KernelTables;
+use lwk_space::Space;
 use mck_word::Tid;
 use page_map::PageTable;
 
@@ -53,7 +53,7 @@ fn clone_refusal(flags: u64, threads: u32) -> Option<i64>
 
 /// A clone that isn't refused, by the arguments flags, stack, parent tid, tls and child tid.
 fn clones<T: PageTable>(
-    node: &mut Node,
+    node: &mut KernelTables,
     space: &Space<T>,
     mem: &mut FrameMem,
     t: Tid,
@@ -81,7 +81,7 @@ fn clones<T: PageTable>(
 /// clone, where the flags aren't those of a fork: a thread begins beside the caller, by the arguments flags, stack, parent tid, tls and
 /// child tid.
 pub fn clone<T: PageTable>(
-    node: &mut Node,
+    node: &mut KernelTables,
     space: &Space<T>,
     mem: &mut FrameMem,
     t: Tid,

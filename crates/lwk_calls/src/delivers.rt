@@ -3,18 +3,18 @@ ghost use Rattle.isa_model.specs.Memory.{may_access};
 ghost use Rattle.isa_model.specs.Registers.{reg};
 ghost use Rattle.kernel_model.specs.Signals.{deliver, deliver_signal, enter_handler, frame_size, return_from_handler};
 ghost use Rattle.lwk_calls.specs.SignalWords.{framed};
-ghost use Rattle.lwk_node.specs.Room.{KeepsRoom};
-ghost use Rattle.lwk_tables.specs.Lacks.{OthersStay, memory};
-ghost use Rattle.lwk_tables.specs.Rows.{FramesApart, FramesIn};
+ghost use Rattle.kernel_tables.specs.Room.{KeepsRoom};
+ghost use Rattle.lwk_space.specs.Lacks.{OthersStay, memory};
+ghost use Rattle.lwk_space.specs.Rows.{FramesApart, FramesIn};
 ghost use Rattle.lwk_views.specs.Views.{Did};
 ghost use Rattle.mck_word.specs.declared.Access.TheVariants.{Write};
 ghost use Rattle.std.specs.Prelude.{◌≡◌, ◌≤◌, length};
 
 use frame_mem::FrameMem;
 use kernel_model::Action;
-use lwk_node::Node;
+use kernel_tables::KernelTables;
 use lwk_signals::{FRAME_SIZE, frame_address, interrupted_regs, pop_frame, push_frame};
-use lwk_tables::Space;
+use lwk_space::Space;
 use lwk_views::{read_into, try_store};
 use mck_flags::SigSet;
 use mck_word::{End, Regs, Tid};
@@ -46,7 +46,7 @@ fn store_frame<T: PageTable>(
 
 /// The thread begins the handler of the action, behind its frame; where that can't be stored, its process is killed.
 fn enter_handler<T: PageTable>(
-    node: &mut Node,
+    node: &mut KernelTables,
     space: &Space<T>,
     mem: &mut FrameMem,
     t: Tid,
@@ -75,7 +75,7 @@ fn enter_handler<T: PageTable>(
 
 /// The signal, which was taken, is delivered: it kills the process of the thread, or the thread begins its handler.
 fn deliver_signal<T: PageTable>(
-    node: &mut Node,
+    node: &mut KernelTables,
     space: &Space<T>,
     mem: &mut FrameMem,
     t: Tid,
@@ -99,7 +99,7 @@ fn deliver_signal<T: PageTable>(
 }
 
 /// The next signal of the thread, where there is one, is taken and delivered.
-pub fn deliver<T: PageTable>(node: &mut Node, space: &Space<T>, mem: &mut FrameMem, t: Tid)
+pub fn deliver<T: PageTable>(node: &mut KernelTables, space: &Space<T>, mem: &mut FrameMem, t: Tid)
     requires frames { FramesIn (T.rows space.now.table) mem.old }
     requires apart { FramesApart (T.rows space.now.table) }
     ensures did { Did (T.rows space.now.table) node.old mem.old node.new mem.new (deliver t.0) }
@@ -122,7 +122,12 @@ fn stack_pointer(r: &Regs) -> u64
 }
 
 /// rt_sigreturn: the registers and the mask come back from the frame at the stack pointer; where that can't be read, 11 is raised.
-pub fn return_from_handler<T: PageTable>(node: &mut Node, space: &Space<T>, mem: &FrameMem, t: Tid)
+pub fn return_from_handler<T: PageTable>(
+    node: &mut KernelTables,
+    space: &Space<T>,
+    mem: &FrameMem,
+    t: Tid,
+)
     requires frames { FramesIn (T.rows space.now.table) mem.now }
     ensures did { Did (T.rows space.now.table) node.old mem.now node.new mem.now (return_from_handler t.0) }
     ensures room { KeepsRoom node.old node.new }

@@ -6,10 +6,10 @@ ghost use Rattle.kernel_model.specs.Nodes.{has_process, has_thread, thread_of};
 ghost use Rattle.kernel_model.specs.Signals.{stored_all};
 ghost use Rattle.lwk_calls.specs.Forks.{begins_child, fork_refusal};
 ghost use Rattle.lwk_calls.specs.Words.{told};
-ghost use Rattle.lwk_node.specs.Shown.{node_of};
-ghost use Rattle.lwk_tables.specs.Frames.{frames_map};
-ghost use Rattle.lwk_tables.specs.Lacks.{OthersStay, memory};
-ghost use Rattle.lwk_tables.specs.Rows.{FramesApart, FramesIn};
+ghost use Rattle.kernel_tables.specs.Shown.{node_of};
+ghost use Rattle.lwk_space.specs.Frames.{frames_map};
+ghost use Rattle.lwk_space.specs.Lacks.{OthersStay, memory};
+ghost use Rattle.lwk_space.specs.Rows.{FramesApart, FramesIn};
 ghost use Rattle.lwk_views.specs.Views.{seen};
 ghost use Rattle.mck_word.specs.Words.{has_bit};
 ghost use Rattle.std.specs.Prelude.{◌≡◌, ◌≤◌, ◌<◌, ◌-◌, ◌^◌, IsTrue, length, slice_index};
@@ -17,8 +17,8 @@ ghost use Rattle.std.specs.Prelude.{◌≡◌, ◌≤◌, ◌<◌, ◌-◌, ◌^
 use crate::answering::{EAGAIN, has_bit, minus};
 use crate::numbers::tells_number;
 use frame_mem::FrameMem;
-use lwk_node::Node;
-use lwk_tables::Space;
+use kernel_tables::KernelTables;
+use lwk_space::Space;
 use mck_word::{Pid, Tid};
 use page_map::PageTable;
 
@@ -60,7 +60,7 @@ pub fn fork_refusal(processes: usize, free: u64, pages: u64) -> Option<i64>
 /// A fork that isn't refused, by the arguments flags, stack, parent tid, tls and child tid: a process and its first thread begin, the
 /// parent is told the number, and the caller is answered it.
 pub fn begins_child<T: PageTable>(
-    node: &mut Node,
+    node: &mut KernelTables,
     space: &Space<T>,
     mem: &mut FrameMem,
     t: Tid,

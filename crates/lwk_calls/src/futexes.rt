@@ -3,10 +3,10 @@ ghost use Rattle.file_model.specs.Files.{Files};
 ghost use Rattle.kernel_model.specs.LocalCalls.{futex, futex_operation, futex_wait, futex_wake, waiters, wake_count};
 ghost use Rattle.kernel_model.specs.Nodes.{most_threads, thread_of};
 ghost use Rattle.lwk_calls.specs.Words.{wait_refusal, word_at};
-ghost use Rattle.lwk_node.specs.Room.{KeepsRoom};
-ghost use Rattle.lwk_node.specs.Shown.{node_of};
-ghost use Rattle.lwk_tables.specs.Lacks.{memory};
-ghost use Rattle.lwk_tables.specs.Rows.{FramesIn};
+ghost use Rattle.kernel_tables.specs.Room.{KeepsRoom};
+ghost use Rattle.kernel_tables.specs.Shown.{node_of};
+ghost use Rattle.lwk_space.specs.Lacks.{memory};
+ghost use Rattle.lwk_space.specs.Rows.{FramesIn};
 ghost use Rattle.lwk_views.specs.Views.{Did, DidAlone};
 ghost use Rattle.mck_word.specs.Words.{number_of};
 ghost use Rattle.std.specs.List.{list_any};
@@ -16,8 +16,8 @@ use crate::answering::{EAGAIN, EFAULT, EINVAL, ENOSYS, answers, minus};
 use byteorder::{ByteOrder, LittleEndian};
 use call_plan::arguments::int;
 use frame_mem::FrameMem;
-use lwk_node::Node;
-use lwk_tables::Space;
+use kernel_tables::KernelTables;
+use lwk_space::Space;
 use lwk_views::read_into;
 use mck_word::Tid;
 use page_map::PageTable;
@@ -80,7 +80,7 @@ fn wait_refusal<T: PageTable>(
 
 /// The thread sleeps at the address, where the number there is `val`.
 fn futex_wait<T: PageTable>(
-    node: &mut Node,
+    node: &mut KernelTables,
     space: &Space<T>,
     mem: &FrameMem,
     t: Tid,
@@ -110,7 +110,7 @@ fn wake_count(val: i32) -> u32
 }
 
 /// The first of those that sleep at the address wake, and the answer is their number.
-fn futex_wake(node: &mut Node, t: Tid, address: u64, val: i32)
+fn futex_wake(node: &mut KernelTables, t: Tid, address: u64, val: i32)
     ensures did { DidAlone node.old node.new (futex_wake t.0 address val) }
     ensures room { KeepsRoom node.old node.new }
 {
@@ -132,7 +132,7 @@ fn futex_operation(op: u64) -> u64
 
 /// futex: the thread sleeps at the address or wakes others there. It sleeps nowhere itself, and fewer than sixteen sleep there.
 pub fn futex<T: PageTable>(
-    node: &mut Node,
+    node: &mut KernelTables,
     space: &Space<T>,
     mem: &FrameMem,
     t: Tid,

@@ -2,9 +2,9 @@
 ghost use Rattle.isa_model.specs.Memory.{may_access};
 ghost use Rattle.kernel_model.specs.SignalCalls.{is_how, sets_mask, sigpending, sigprocmask};
 ghost use Rattle.lwk_calls.specs.SignalWords.{asked_set, given_mask, is_wrong_mask, mask_refusal, put_at, readable, writable};
-ghost use Rattle.lwk_node.specs.Room.{KeepsRoom};
-ghost use Rattle.lwk_tables.specs.Lacks.{OthersStay, memory};
-ghost use Rattle.lwk_tables.specs.Rows.{FramesApart, FramesIn};
+ghost use Rattle.kernel_tables.specs.Room.{KeepsRoom};
+ghost use Rattle.lwk_space.specs.Lacks.{OthersStay, memory};
+ghost use Rattle.lwk_space.specs.Rows.{FramesApart, FramesIn};
 ghost use Rattle.lwk_views.specs.Views.{Did, Stepped, tried};
 ghost use Rattle.mck_word.specs.Words.{little_endian};
 ghost use Rattle.mck_word.specs.declared.Access.TheVariants.{Write};
@@ -13,9 +13,9 @@ ghost use Rattle.std.specs.Prelude.{◌≡◌, ◌≤◌, List, length, true, �
 use crate::answering::{EFAULT, EINVAL, answers};
 use crate::pointers::{lacks_access, store_at};
 use frame_mem::FrameMem;
-use lwk_node::Node;
+use kernel_tables::KernelTables;
 use lwk_signals::{SET_SIZE, put_set, set_in};
-use lwk_tables::Space;
+use lwk_space::Space;
 use lwk_views::{read_into, try_store};
 use mck_flags::SigSet;
 use mck_word::Tid;
@@ -82,7 +82,7 @@ fn store_set<T: PageTable>(space: &Space<T>, mem: &mut FrameMem, old: u64, set: 
 }
 
 /// The thread has another mask, where a set is given.
-fn give_mask(node: &mut Node, t: Tid, how: i32, set: Option<SigSet>)
+fn give_mask(node: &mut KernelTables, t: Tid, how: i32, set: Option<SigSet>)
     ensures is { Stepped node.old node.new (given_mask t.0 how set) }
     ensures room { KeepsRoom node.old node.new }
 {
@@ -93,7 +93,7 @@ fn give_mask(node: &mut Node, t: Tid, how: i32, set: Option<SigSet>)
 
 /// An rt_sigprocmask that isn't refused.
 fn sets_mask<T: PageTable>(
-    node: &mut Node,
+    node: &mut KernelTables,
     space: &Space<T>,
     mem: &mut FrameMem,
     t: Tid,
@@ -117,7 +117,7 @@ fn sets_mask<T: PageTable>(
 
 /// rt_sigprocmask: the mask is told, and changed by a set, each where it is asked for.
 pub fn sigprocmask<T: PageTable>(
-    node: &mut Node,
+    node: &mut KernelTables,
     space: &Space<T>,
     mem: &mut FrameMem,
     t: Tid,
@@ -161,7 +161,7 @@ fn store_part<T: PageTable>(
 
 /// rt_sigpending: the signals that are pending and masked are told, as many bytes of the set as are asked for.
 pub fn sigpending<T: PageTable>(
-    node: &mut Node,
+    node: &mut KernelTables,
     space: &Space<T>,
     mem: &mut FrameMem,
     t: Tid,

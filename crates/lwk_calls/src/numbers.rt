@@ -1,8 +1,8 @@
 // Numbers of 32 bits that are stored for the caller.
 ghost use Rattle.isa_model.specs.Memory.{may_access};
 ghost use Rattle.lwk_calls.specs.Words.{told};
-ghost use Rattle.lwk_tables.specs.Lacks.{OthersStay, memory};
-ghost use Rattle.lwk_tables.specs.Rows.{FramesApart, FramesIn};
+ghost use Rattle.lwk_space.specs.Lacks.{OthersStay, memory};
+ghost use Rattle.lwk_space.specs.Rows.{FramesApart, FramesIn};
 ghost use Rattle.lwk_views.specs.Views.{tried};
 ghost use Rattle.mck_word.specs.Words.{little_endian};
 ghost use Rattle.mck_word.specs.declared.Access.TheVariants.{Write};
@@ -10,7 +10,7 @@ ghost use Rattle.std.specs.Prelude.{◌≡◌, length};
 
 use byteorder::{ByteOrder, LittleEndian};
 use frame_mem::FrameMem;
-use lwk_tables::Space;
+use lwk_space::Space;
 use lwk_views::try_store;
 use page_map::PageTable;
 

@@ -1,11 +1,11 @@
 // Pointers of the calls on signals, which ask for nothing where they are 0.
 ghost use Rattle.lwk_calls.specs.SignalWords.{lacks_access, put_at, readable, writable};
-ghost use Rattle.lwk_tables.specs.Lacks.{OthersStay, memory};
-ghost use Rattle.lwk_tables.specs.Rows.{FramesApart, FramesIn};
+ghost use Rattle.lwk_space.specs.Lacks.{OthersStay, memory};
+ghost use Rattle.lwk_space.specs.Rows.{FramesApart, FramesIn};
 ghost use Rattle.std.specs.Prelude.{◌≡◌, ◌<◌, ◌^◌, List, length, ℕ};
 
 use frame_mem::FrameMem;
-use lwk_tables::Space;
+use lwk_space::Space;
 use lwk_views::{can_read, can_write, try_store};
 use page_map::PageTable;
 

@@ -2,8 +2,8 @@
 ghost use Rattle.kernel_model.specs.CloneCalls.{begins_wait, end_status, status_of_life, tells_end, wait4, wait_over};
 ghost use Rattle.kernel_model.specs.Traps.{waited};
 ghost use Rattle.lwk_calls.specs.Words.{wait4_refusal, waits};
-ghost use Rattle.lwk_node.specs.Room.{KeepsRoom};
-ghost use Rattle.lwk_tables.specs.Rows.{FramesApart, FramesIn};
+ghost use Rattle.kernel_tables.specs.Room.{KeepsRoom};
+ghost use Rattle.lwk_space.specs.Rows.{FramesApart, FramesIn};
 ghost use Rattle.lwk_views.specs.Views.{Did, DidAlone};
 ghost use Rattle.std.specs.Prelude.{◌≡◌};
 
@@ -11,8 +11,8 @@ use crate::answering::{ECHILD, EFAULT, EINVAL, ENOSYS, answers, has_bit, minus};
 use crate::numbers::store_number;
 use frame_mem::FrameMem;
 use kernel_model::{Does, Life};
-use lwk_node::Node;
-use lwk_tables::Space;
+use kernel_tables::KernelTables;
+use lwk_space::Space;
 use mck_word::{End, Pid, Tid};
 use page_map::PageTable;
 
@@ -44,7 +44,7 @@ fn status_of_life(life: Life) -> u32
 
 /// The end of the child is told at the address, which may be 0, and noted as waited for.
 fn tells_end<T: PageTable>(
-    node: &mut Node,
+    node: &mut KernelTables,
     space: &Space<T>,
     mem: &mut FrameMem,
     t: Tid,
@@ -69,7 +69,7 @@ fn tells_end<T: PageTable>(
 
 /// The wait of the thread is over: the lowest selected child that is Ended is told, or the call is refused.
 fn wait_over<T: PageTable>(
-    node: &mut Node,
+    node: &mut KernelTables,
     space: &Space<T>,
     mem: &mut FrameMem,
     t: Tid,
@@ -89,7 +89,7 @@ fn wait_over<T: PageTable>(
 }
 
 /// The thread waits for a child, or answers 0 at once.
-fn begins_wait(node: &mut Node, t: Tid, pid: i32, status: u64, options: u32)
+fn begins_wait(node: &mut KernelTables, t: Tid, pid: i32, status: u64, options: u32)
     ensures did { DidAlone node.old node.new (begins_wait t.0 pid status options) }
     ensures room { KeepsRoom node.old node.new }
 {
@@ -115,7 +115,7 @@ fn wait4_refusal(options: u32, rusage: u64) -> Option<i64>
 
 /// A wait that isn't refused.
 fn waits<T: PageTable>(
-    node: &mut Node,
+    node: &mut KernelTables,
     space: &Space<T>,
     mem: &mut FrameMem,
     t: Tid,
@@ -138,7 +138,7 @@ fn waits<T: PageTable>(
 
 /// wait4: the end of a selected child is told, or the thread waits for it. What was used isn't told.
 pub fn wait4<T: PageTable>(
-    node: &mut Node,
+    node: &mut KernelTables,
     space: &Space<T>,
     mem: &mut FrameMem,
     t: Tid,
@@ -159,7 +159,7 @@ pub fn wait4<T: PageTable>(
 }
 
 /// The wait that the thread is in is over, where it is in one.
-pub fn waited<T: PageTable>(node: &mut Node, space: &Space<T>, mem: &mut FrameMem, t: Tid)
+pub fn waited<T: PageTable>(node: &mut KernelTables, space: &Space<T>, mem: &mut FrameMem, t: Tid)
     requires frames { FramesIn (T.rows space.now.table) mem.old }
     requires apart { FramesApart (T.rows space.now.table) }
     ensures did { Did (T.rows space.now.table) node.old mem.old node.new mem.new (waited t.0) }

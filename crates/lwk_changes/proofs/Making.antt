@@ -9,8 +9,8 @@ use Rattle.kernel_model.specs.Pages.{pages_count, range}
 use Rattle.kernel_model.specs.Spaces.{OneSpace, each_in, each_page}
 use Rattle.lwk_changes.proofs.Counting.{all-there}
 use Rattle.lwk_changes.proofs.Shown.{absent-shown, memory-shown, there-shown}
-use Rattle.lwk_tables.specs.Lacks.{memory}
-use Rattle.lwk_tables.specs.Rows.{AbsentIn, PresentIn}
+use Rattle.lwk_space.specs.Lacks.{memory}
+use Rattle.lwk_space.specs.Rows.{AbsentIn, PresentIn}
 use Rattle.mck_word.specs.EachLaws.{at-each}
 use Rattle.mck_word.specs.Maps.{Map, at}
 use Rattle.mck_word.specs.Pages.{in_range}

@@ -7,8 +7,8 @@ use Rattle.hybrid_model.specs.Tallies.{Each}
 use Rattle.isa_model.specs.Memory.{Memory, Page}
 use Rattle.kernel_model.specs.MemoryCalls.{any_lessened, lessens}
 use Rattle.lwk_changes.specs.Shows.{Shows, lessened_in}
-use Rattle.lwk_tables.specs.Frames.{frames_map}
-use Rattle.lwk_tables.specs.Lacks.{memory}
+use Rattle.lwk_space.specs.Frames.{frames_map}
+use Rattle.lwk_space.specs.Lacks.{memory}
 use Rattle.mck_flags.specs.declared.rights.Rights.{Rights}
 use Rattle.mck_word.specs.EachLaws.{at-each}
 use Rattle.mck_word.specs.Maps.{Map, at, entries}

@@ -4,7 +4,7 @@ use Rattle.kernel_model.specs.MemoryCalls.{all_present, count_present, exceeds, 
 use Rattle.kernel_model.specs.Pages.{page_end, pages_count, range}
 use Rattle.kernel_model.specs.declared.Change.{Change}
 use Rattle.kernel_model.specs.declared.Change.TheVariants.{Brk, Map as ChangeMap, Protect, Unmap}
-use Rattle.lwk_tables.specs.Rows.{RoomFor}
+use Rattle.lwk_space.specs.Rows.{RoomFor}
 use Rattle.mck_word.specs.declared.PageRange.{PageRange}
 use Rattle.std.specs.Prelude.{List, cond, false, nat_lt, true, ℕ, ◌^◌, ◌≡◌, ◌≤◌}
 use Rattle.vm_calls.specs.Plans.{closes}

@@ -8,7 +8,7 @@ ghost use Rattle.std.specs.Prelude.{◌≡◌, ◌+◌, ◌<◌, ◌≤◌, ◌^
 ghost use Rattle.vm_calls.specs.Plans.{argument, looks_for_gap};
 
 use ikc_ring::Call;
-use lwk_tables::Space;
+use lwk_space::Space;
 use page_map::PageTable;
 
 /// The first page at or above an address.

@@ -15,7 +15,7 @@ ghost use Rattle.job_model.specs.Images.{highest};
 ghost use Rattle.kernel_model.specs.MemoryCalls.{decide, refusal_at_end};
 ghost use Rattle.kernel_model.specs.Nodes.{Process};
 ghost use Rattle.lwk_changes.specs.Conditions.{ClosesBy};
-ghost use Rattle.lwk_tables.specs.Lacks.{memory};
+ghost use Rattle.lwk_space.specs.Lacks.{memory};
 ghost use Rattle.offer_laws.specs.ChangeFits.{DecisionFits};
 ghost use Rattle.std.specs.Option.{ForSome};
 ghost use Rattle.std.specs.Prelude.{◌≡◌, ◌<◌, ◌≤◌, ◌^◌, ℕ, List};
@@ -26,7 +26,7 @@ use counts::{count_present, lessens_any, rights_of};
 use gaps::gap_for;
 use ikc_ring::Call;
 use kernel_model::Change;
-use lwk_tables::Space;
+use lwk_space::Space;
 use page_map::PageTable;
 use vm_calls::{AtEnd, Facts, VmPlan, call_range, change_range};
 

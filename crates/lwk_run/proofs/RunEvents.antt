@@ -10,8 +10,8 @@ use Rattle.kernel_model.specs.Traps.{Ran}
 use Rattle.lwk_run.proofs.ThreadRuns.{run-after, run-length}
 use Rattle.lwk_run.specs.Counts.{executed_count, node_after}
 use Rattle.lwk_run.specs.Lent.{StoredTo}
-use Rattle.lwk_tables.specs.Frames.{frames_map}
-use Rattle.lwk_tables.specs.Lacks.{memory}
+use Rattle.lwk_space.specs.Frames.{frames_map}
+use Rattle.lwk_space.specs.Lacks.{memory}
 use Rattle.mck_word.specs.Maps.{at}
 use Rattle.rv64i_user.specs.Runs.{instrs}
 use Rattle.std.proofs.Common.{ap, sym, ◌∙◌}

@@ -2,10 +2,10 @@
 use Rattle.hybrid_model.specs.Sides.{Row, looked_up}
 use Rattle.isa_model.specs.Memory.{Page, lacks}
 use Rattle.lwk_run.specs.Lent.{Stays, has_frame, is_frame}
-use Rattle.lwk_tables.proofs.BytesRead.{at-row, frame-bytes, lacks-looked, looked-there}
-use Rattle.lwk_tables.proofs.BytesWritten.{shown-set}
-use Rattle.lwk_tables.specs.Lacks.{memory}
-use Rattle.lwk_tables.specs.Rows.{FramesApart, FramesIn}
+use Rattle.lwk_space.proofs.BytesRead.{at-row, frame-bytes, lacks-looked, looked-there}
+use Rattle.lwk_space.proofs.BytesWritten.{shown-set}
+use Rattle.lwk_space.specs.Lacks.{memory}
+use Rattle.lwk_space.specs.Rows.{FramesApart, FramesIn}
 use Rattle.mck_word.specs.Maps.{Map, at, change_row, put}
 use Rattle.mck_word.specs.declared.Access.{Access}
 use Rattle.rv64i_user.specs.Places.{bytes_of, page_put, put_bytes, put_in}

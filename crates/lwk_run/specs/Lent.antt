@@ -1,8 +1,8 @@
 -- Pages lent for a run: what a run leaves of them.
 use Rattle.hybrid_model.specs.Sides.{Row}
 use Rattle.hybrid_model.specs.Spaces.{written_back}
-use Rattle.lwk_tables.specs.Frames.{frames_map}
-use Rattle.lwk_tables.specs.Lacks.{OthersStay, memory}
+use Rattle.lwk_space.specs.Frames.{frames_map}
+use Rattle.lwk_space.specs.Lacks.{OthersStay, memory}
 use Rattle.mck_word.specs.Maps.{Map, at}
 use Rattle.std.specs.Prelude.{Bool, List, None, Option, Some, false, length, nat_lt, ℕ, ◌&&◌, ◌==◌, ◌^◌, ◌≡◌}
 

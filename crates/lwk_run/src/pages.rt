@@ -3,14 +3,14 @@ ghost use Rattle.hybrid_model.specs.Sides.{Row};
 ghost use Rattle.isa_model.specs.Memory.{IsSize};
 ghost use Rattle.lwk_run.specs.Lent.{Stays, is_frame};
 ghost use Rattle.lwk_run.specs.SameRows.{rows-prop};
-ghost use Rattle.lwk_tables.specs.Lacks.{memory};
-ghost use Rattle.lwk_tables.specs.Rows.{FramesApart, FramesIn};
+ghost use Rattle.lwk_space.specs.Lacks.{memory};
+ghost use Rattle.lwk_space.specs.Rows.{FramesApart, FramesIn};
 ghost use Rattle.mck_word.specs.Maps.{Map, no_rows};
 ghost use Rattle.rv64i_user.specs.Places.{put_bytes};
 ghost use Rattle.std.specs.Prelude.{◌≡◌, ◌≤◌, ◌<◌, ◌+◌, ℕ, List, [], length, slice_index_or, slice_set};
 
 use frame_mem::FrameMem;
-use lwk_tables::Space;
+use lwk_space::Space;
 use mck_word::{Access, Frame};
 use page_map::PageTable;
 use rv64i_user::{PageMem, write_some};

@@ -2,14 +2,14 @@
 ghost use Rattle.isa_model.specs.declared.stops.Stop.TheVariants.{On};
 ghost use Rattle.lwk_run.specs.Counts.{executed_count, stopped_one};
 ghost use Rattle.lwk_run.specs.Lent.{Stays, StoredTo};
-ghost use Rattle.lwk_tables.specs.Lacks.{memory};
-ghost use Rattle.lwk_tables.specs.Rows.{FramesApart, FramesIn};
+ghost use Rattle.lwk_space.specs.Lacks.{memory};
+ghost use Rattle.lwk_space.specs.Rows.{FramesApart, FramesIn};
 ghost use Rattle.rv64i_user.specs.Runs.{instrs};
 ghost use Rattle.std.specs.Prelude.{◌≡◌, ◌≤◌};
 
 use crate::pages::{Begun, Frames, UserPages};
 use frame_mem::FrameMem;
-use lwk_tables::Space;
+use lwk_space::Space;
 use mck_word::Regs;
 use page_map::PageTable;
 use rv64i_user::{Kept, KnownWords, Stop, run_known};

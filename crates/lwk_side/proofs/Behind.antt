@@ -5,12 +5,12 @@ use Rattle.hybrid_model.specs.Spaces.{written_back}
 use Rattle.kernel_model.specs.LocalCalls.{waiters}
 use Rattle.kernel_model.specs.Nodes.{Node as KernelNode, Thread, change_thread, most_threads, no_thread, set_pc, thread_of}
 use Rattle.kernel_model.specs.Signals.{View, on_node, stored_all, view}
-use Rattle.lwk_node.specs.Room.{KeepsRoom}
-use Rattle.lwk_node.specs.Shown.{node_of}
-use Rattle.lwk_node.specs.declared.tables.Node.{Node}
+use Rattle.kernel_tables.specs.Room.{KeepsRoom}
+use Rattle.kernel_tables.specs.Shown.{node_of}
+use Rattle.kernel_tables.specs.declared.tables.KernelTables.{KernelTables}
 use Rattle.lwk_side.specs.Resting.{MayRest}
-use Rattle.lwk_tables.specs.Frames.{frames_map}
-use Rattle.lwk_tables.specs.Lacks.{memory}
+use Rattle.lwk_space.specs.Frames.{frames_map}
+use Rattle.lwk_space.specs.Lacks.{memory}
 use Rattle.lwk_views.specs.Views.{Did, Stepped}
 use Rattle.mck_word.specs.Maps.{Map, at}
 use Rattle.std.proofs.Common.{ap, arith, refl, subst, sym, ◌∙◌, ◌≡◌}
@@ -34,7 +34,7 @@ at-itself node t = at-change node.threads t past t ∙ (let e : (t == t) ≡ tru
 pub process-kept : (node : KernelNode) (t : ℕ) → (thread_of (behind t node) t).process ≡ (thread_of node t).process
 process-kept node t = ap (λ (o : Option Thread). (unwrap_or o no_thread).process) (at-itself node t) ∙ process-there (at node.threads t)
 
-pub may-rest : (before after : Node) (t : ℕ) → KeepsRoom before after → Stepped before after (behind t) → MayRest before t → MayRest after t
+pub may-rest : (before after : KernelTables) (t : ℕ) → KeepsRoom before after → Stepped before after (behind t) → MayRest before t → MayRest after t
 may-rest before after t room step h = record {
   room = let a = h.room in let b = room.sleepers in omega (arith, a, b);
   awake = λ files. ap (λ (k : KernelNode). list_any (λ s. s.thread == t) k.sleepers) (step files) ∙ h.awake files;
@@ -46,7 +46,7 @@ may-rest before after t room step h = record {
 }
 
 -- a step of the node, and a word from there
-pub did-after : (rows : Map Row) (before middle after : Node) (pages left : List (List ℕ)) (f : KernelNode → KernelNode) (word : View → View)
+pub did-after : (rows : Map Row) (before middle after : KernelTables) (pages left : List (List ℕ)) (f : KernelNode → KernelNode) (word : View → View)
     → Stepped before middle f → Did rows middle pages after left word → Did rows before pages after left (λ v. word (on_node f v))
 did-after rows before middle after pages left f word step d = record {
   node = λ files. d.node files ∙ ap (λ (k : KernelNode). (word (view k (memory rows pages))).node) (step files);

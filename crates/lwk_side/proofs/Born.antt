@@ -28,15 +28,15 @@ use Rattle.kernel_model.specs.Signals.{Store, View, stored_all}
 use Rattle.kernel_model.specs.Traps.{Forks, Trapped, arguments_of, cloned, past_ecall, planned, trap, trap_of_stop}
 use Rattle.lwk_calls.specs.Forks.{fork_refusal}
 use Rattle.lwk_calls.specs.Words.{told}
-use Rattle.lwk_node.specs.Shown.{node_of}
-use Rattle.lwk_node.specs.declared.tables.Node.{Node}
+use Rattle.kernel_tables.specs.Shown.{node_of}
+use Rattle.kernel_tables.specs.declared.tables.KernelTables.{KernelTables}
 use Rattle.lwk_side.specs.Cloning.{calls_fork, forks_at, names_fork}
 use Rattle.lwk_side.specs.Forked.{born_side}
 use Rattle.lwk_side.specs.Shown.{Rest, here_of}
 use Rattle.lwk_side.specs.declared.kernel.Lwk.{Lwk}
 use Rattle.lwk_side.specs.declared.task.Task.{Task}
-use Rattle.lwk_tables.specs.Frames.{frames_map, space}
-use Rattle.lwk_tables.specs.Lacks.{memory}
+use Rattle.lwk_space.specs.Frames.{frames_map, space}
+use Rattle.lwk_space.specs.Lacks.{memory}
 use Rattle.frame_pool.specs.Pools.{Pool}
 use Rattle.mck_word.specs.MapLaws.{at-none}
 use Rattle.mck_word.specs.Maps.{Map, at, count, entries, no_rows}
@@ -155,7 +155,7 @@ module _ {T : Type 0} (lwk : Lwk) (rows : Map Row) (task : Task T) (c : Channel)
   abbrev now : Here
   now = here_of lwk rows task c r
 
-  pub fork-here : (node : Node) (files : Files) (table : Map Row) (pages middle left : List (List ℕ)) (pool : Pool) → node_of node files ≡ v.node
+  pub fork-here : (node : KernelTables) (files : Files) (table : Map Row) (pages middle left : List (List ℕ)) (pool : Pool) → node_of node files ≡ v.node
       → frames_map pages ≡ written_back rows (stored_all v.stores (memory rows lwk.frames)) (frames_map lwk.frames)
       → space table middle pool ≡ copied_pages (entries (memory rows pages)) (space no_rows pages lwk.pool)
       → frames_map left ≡ written_back table (stored_all stores (memory table middle)) (frames_map middle)

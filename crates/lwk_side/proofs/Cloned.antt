@@ -4,9 +4,9 @@ use Rattle.kernel_model.specs.Calls.{local_call}
 use Rattle.kernel_model.specs.Nodes.{Node as KernelNode, Thread, has_thread}
 use Rattle.kernel_model.specs.Signals.{View}
 use Rattle.kernel_model.specs.Traps.{Done, cloned}
-use Rattle.lwk_node.specs.Room.{KeepsRoom}
-use Rattle.lwk_node.specs.Shown.{node_of}
-use Rattle.lwk_node.specs.declared.tables.Node.{Node}
+use Rattle.kernel_tables.specs.Room.{KeepsRoom}
+use Rattle.kernel_tables.specs.Shown.{node_of}
+use Rattle.kernel_tables.specs.declared.tables.KernelTables.{KernelTables}
 use Rattle.lwk_side.proofs.Behind.{at-itself, behind, past}
 use Rattle.lwk_side.specs.Cloning.{MayClone, is_fork}
 use Rattle.lwk_views.specs.Views.{Stepped}
@@ -22,7 +22,7 @@ still-there (Some x) = refl
 lives-behind : (node : KernelNode) (t : ℕ) → has_thread (behind t node) t ≡ has_thread node t
 lives-behind node t = ap is_some (at-itself node t) ∙ still-there (at node.threads t)
 
-pub may-clone : (before after : Node) (t : ℕ) → KeepsRoom before after → Stepped before after (behind t) → MayClone before t → MayClone after t
+pub may-clone : (before after : KernelTables) (t : ℕ) → KeepsRoom before after → Stepped before after (behind t) → MayClone before t → MayClone after t
 may-clone before after t room step h = record {
   room = let a = h.room in let b = room.threads in omega (arith, a, b);
   lives = λ files. ap (λ (k : KernelNode). has_thread k t) (step files) ∙ lives-behind (node_of before files) t ∙ h.lives files;

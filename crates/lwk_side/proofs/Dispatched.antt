@@ -3,7 +3,7 @@ use Rattle.hybrid_model.specs.Sides.{Row}
 use Rattle.kernel_model.specs.Calls.{one_of_calls}
 use Rattle.kernel_model.specs.CloneCalls.{wait4}
 use Rattle.kernel_model.specs.Signals.{View}
-use Rattle.lwk_node.specs.declared.tables.Node.{Node}
+use Rattle.kernel_tables.specs.declared.tables.KernelTables.{KernelTables}
 use Rattle.lwk_views.proofs.Doing.{did_as}
 use Rattle.lwk_views.specs.Views.{Did, seen}
 use Rattle.mck_word.specs.Maps.{Map}
@@ -11,7 +11,7 @@ use Rattle.mck_word.specs.Words.{int_argument}
 use Rattle.std.proofs.Common.{ap, arith, ne_eqb, refl, sym, ◌∙◌, ◌≡◌}
 use Rattle.std.specs.Prelude.{List, false, true, ℕ, ◌%◌, ◌==◌, ◌^◌}
 
-pub by-number : (rows : Map Row) (before after : Node) (pages left : List (List ℕ)) (t number n : ℕ) (a : ℕ → ℕ) (word : View → View)
+pub by-number : (rows : Map Row) (before after : KernelTables) (pages left : List (List ℕ)) (t number n : ℕ) (a : ℕ → ℕ) (word : View → View)
     → number ≡ n → ((v : View) → one_of_calls t n a v ≡ word v)
     → Did rows before pages after left word → Did rows before pages after left (one_of_calls t number a)
 by-number rows before after pages left t number n a word e h d =

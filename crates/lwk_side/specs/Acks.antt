@@ -7,12 +7,12 @@ use Rattle.ikc_channel.specs.declared.Channel.{Channel}
 use Rattle.ikc_ring.specs.declared.Msg.TheVariants.{Ack}
 use Rattle.ikc_ring.specs.declared.Msg.{Msg}
 use Rattle.kernel_model.specs.Nodes.{change_in, process_of, thread_of}
-use Rattle.lwk_node.specs.Shown.{node_of}
+use Rattle.kernel_tables.specs.Shown.{node_of}
 use Rattle.lwk_side.specs.Changing.{HasAckRoom, HeapFits, changing_in}
 use Rattle.lwk_side.specs.Sound.{IsSound}
 use Rattle.lwk_side.specs.declared.kernel.Lwk.{Lwk}
 use Rattle.lwk_side.specs.declared.task.Task.{Task}
-use Rattle.lwk_tables.specs.Lacks.{memory}
+use Rattle.lwk_space.specs.Lacks.{memory}
 use Rattle.mck_word.specs.Maps.{Map}
 use Rattle.mck_word.specs.declared.PageRange.{PageRange}
 use Rattle.offer_laws.specs.ChangeFits.{NodeFits}

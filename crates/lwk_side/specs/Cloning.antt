@@ -6,8 +6,8 @@ use Rattle.isa_model.specs.declared.stops.Stop.TheVariants.{Ecall}
 use Rattle.kernel_model.specs.CloneCalls.{are_fork_flags}
 use Rattle.kernel_model.specs.Nodes.{Node as KernelNode, has_thread, stop_in, thread_of}
 use Rattle.kernel_model.specs.Traps.{arguments_of}
-use Rattle.lwk_node.specs.Shown.{node_of}
-use Rattle.lwk_node.specs.declared.tables.Node.{Node}
+use Rattle.kernel_tables.specs.Shown.{node_of}
+use Rattle.kernel_tables.specs.declared.tables.KernelTables.{KernelTables}
 use Rattle.mck_word.specs.declared.Regs.{Regs}
 use Rattle.std.specs.Prelude.{Bool, Option, Some, false, get_or, true, ℕ, ◌&&◌, ◌-◌, ◌<◌, ◌==◌, ◌^◌, ◌≡◌, ◌≤◌}
 
@@ -28,7 +28,7 @@ abbrev pub calls_fork : KernelNode → ℕ → Bool
 calls_fork node t = let x = thread_of node t in forks_at x.regs (stop_in x.does)
 
 -- the thread lives, there is room for one more, and its number fits
-pub record MayClone (node : Node) (t : ℕ) : Type 0 where
+pub record MayClone (node : KernelTables) (t : ℕ) : Type 0 where
   pub room : 1 ≤ node.threads.spare
   pub lives : (files : Files) → has_thread (node_of node files) t ≡ true
   pub below : (files : Files) → (node_of node files).next_number < 2 ^ 32 - 1

@@ -3,7 +3,7 @@ use Rattle.file_model.specs.Files.{Files, share}
 use Rattle.hybrid_model.specs.Globals.{Rising}
 use Rattle.hybrid_model.specs.Sides.{Row, Side, new_side, no_lwk}
 use Rattle.kernel_model.specs.Nodes.{has_process, thread_of}
-use Rattle.lwk_node.specs.Shown.{node_of}
+use Rattle.kernel_tables.specs.Shown.{node_of}
 use Rattle.lwk_side.specs.Cloning.{MayClone}
 use Rattle.lwk_side.specs.Shown.{Rest}
 use Rattle.lwk_side.specs.declared.kernel.Lwk.{Lwk}

@@ -3,11 +3,11 @@ use Rattle.file_model.specs.Files.{Files}
 use Rattle.hybrid_model.specs.Pairs.{Here}
 use Rattle.hybrid_model.specs.Sides.{Caller as CallerOf, LinuxSide, LwkSide, Row, Side, Turn}
 use Rattle.ikc_channel.specs.declared.Channel.{Channel}
-use Rattle.lwk_node.specs.Shown.{node_of}
+use Rattle.kernel_tables.specs.Shown.{node_of}
 use Rattle.lwk_side.specs.declared.kernel.Lwk.{Lwk}
 use Rattle.lwk_side.specs.declared.task.Caller.{Caller}
 use Rattle.lwk_side.specs.declared.task.Task.{Task}
-use Rattle.lwk_tables.specs.Frames.{frames_map}
+use Rattle.lwk_space.specs.Frames.{frames_map}
 use Rattle.mck_word.specs.Maps.{Map, each}
 use Rattle.std.specs.Prelude.{None, option_map, ℕ}
 

@@ -2,7 +2,7 @@
 use Rattle.hybrid_model.specs.Sides.{Row}
 use Rattle.ikc_channel.specs.declared.Channel.{Channel}
 use Rattle.lwk_side.specs.declared.kernel.Lwk.{Lwk}
-use Rattle.lwk_tables.specs.Rows.{FramesApart, FramesIn, FramesTaken}
+use Rattle.lwk_space.specs.Rows.{FramesApart, FramesIn, FramesTaken}
 use Rattle.mck_word.specs.Maps.{Map}
 use Rattle.std.specs.Prelude.{length, ◌≡◌}
 

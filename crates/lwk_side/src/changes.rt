@@ -5,10 +5,10 @@ ghost use Rattle.ikc_channel.specs.declared.Channel.{Channel as channels};
 ghost use Rattle.kernel_model.specs.MemoryCalls.{answer_of_change, effect_of};
 ghost use Rattle.kernel_model.specs.Nodes.{Process, process_of};
 ghost use Rattle.lwk_changes.specs.Conditions.{GoesAhead, HasRoomFor};
-ghost use Rattle.lwk_node.specs.Shown.{node_of};
+ghost use Rattle.kernel_tables.specs.Shown.{node_of};
 ghost use Rattle.lwk_side.specs.Shown.{Rest, here_of};
 ghost use Rattle.lwk_side.specs.Sound.{IsSound, KeepsFrames};
-ghost use Rattle.lwk_tables.specs.Lacks.{memory};
+ghost use Rattle.lwk_space.specs.Lacks.{memory};
 ghost use Rattle.offer_laws.specs.ChangeFits.{ChangeFits};
 ghost use Rattle.std.specs.Prelude.{◌≡◌, length};
 

@@ -4,7 +4,7 @@ ghost use Rattle.std.specs.Prelude.{◌≡◌, ◌<◌, ◌%◌, ◌≤◌};
 
 use frame_mem::FrameMem;
 use frame_pool::FramePool;
-use lwk_node::Node;
+use kernel_tables::KernelTables;
 use mck_word::Tid;
 use std::marker::Model;
 
@@ -59,7 +59,7 @@ impl Last {
 /// The lightweight kernel: its tables, the frames and the free ones, the last thread of each core, and how many cores and rings there are.
 #[derive(Drop)]
 pub struct Lwk {
-    pub node: Node,
+    pub node: KernelTables,
     pub frames: FrameMem,
     pub pool: FramePool,
     pub last: Last,

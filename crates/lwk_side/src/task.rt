@@ -3,7 +3,7 @@ ghost use Rattle.mck_word.specs.Maps.{at, cut, no_rows, put};
 ghost use Rattle.std.specs.Prelude.{◌≡◌, ◌<◌, IfOk, None, Some};
 
 use key_rows::Rows;
-use lwk_tables::Space;
+use lwk_space::Space;
 use mck_word::{Access, NoMemory, Req, Tid};
 use page_map::PageTable;
 use std::alloc::Global;

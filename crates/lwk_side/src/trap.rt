@@ -14,7 +14,7 @@ ghost use Rattle.kernel_model.specs.Plans.{Phase};
 ghost use Rattle.kernel_model.specs.Progress.{starting};
 ghost use Rattle.kernel_model.specs.Signals.{on_node, raised, signal_of_stop};
 ghost use Rattle.kernel_model.specs.Traps.{Begins, arguments_of as arguments_in, past_ecall, planned, trap, trap_of_stop};
-ghost use Rattle.lwk_node.specs.Shown.{node_of};
+ghost use Rattle.kernel_tables.specs.Shown.{node_of};
 ghost use Rattle.lwk_side.specs.Begins.{begins_at, begins_call, names_delegated};
 ghost use Rattle.lwk_side.specs.Changing.{HasTrappedRoom, HeapFits};
 ghost use Rattle.lwk_side.specs.Cloning.{MayClone, calls_fork, forks_at, names_fork};

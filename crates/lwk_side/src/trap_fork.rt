@@ -7,12 +7,12 @@ ghost use Rattle.kernel_model.specs.CloneCalls.{forks};
 ghost use Rattle.kernel_model.specs.LocalCalls.{answers};
 ghost use Rattle.kernel_model.specs.Traps.{cloned, past_ecall};
 ghost use Rattle.lwk_calls.specs.Forks.{fork_refusal as refusal_of};
-ghost use Rattle.lwk_node.specs.Shown.{node_of};
+ghost use Rattle.kernel_tables.specs.Shown.{node_of};
 ghost use Rattle.lwk_side.specs.Cloning.{calls_fork, names_fork};
 ghost use Rattle.lwk_side.specs.Forked.{MayFork, born_of, shared};
 ghost use Rattle.lwk_side.specs.Shown.{Rest, here_of};
 ghost use Rattle.lwk_side.specs.Sound.{IsSound, KeepsFrames};
-ghost use Rattle.lwk_tables.specs.Copies.{HasCopyRoom};
+ghost use Rattle.lwk_space.specs.Copies.{HasCopyRoom};
 ghost use Rattle.mck_word.specs.Maps.{count, no_rows};
 ghost use Rattle.std.specs.Prelude.{◌≡◌, ◌≤◌, Some, length, slice_index, true, ℕ};
 
@@ -22,7 +22,7 @@ use crate::trap_local::{arguments_of, call_number};
 use isa_model::Stop;
 use kernel_model::Does;
 use lwk_calls::{are_fork_flags, begins_child, fork_refusal, tells_child};
-use lwk_tables::Space;
+use lwk_space::Space;
 use mck_word::{Pid, Regs, Tid};
 use page_map::PageTable;
 

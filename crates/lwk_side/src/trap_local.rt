@@ -6,10 +6,10 @@ ghost use Rattle.kernel_model.specs.Calls.{one_of_calls};
 ghost use Rattle.kernel_model.specs.LocalCalls.{answers};
 ghost use Rattle.kernel_model.specs.Signals.{on_node, raised, signal_of_stop};
 ghost use Rattle.kernel_model.specs.Traps.{arguments_of};
-ghost use Rattle.lwk_node.specs.Room.{KeepsRoom};
-ghost use Rattle.lwk_node.specs.Shown.{node_of};
+ghost use Rattle.kernel_tables.specs.Room.{KeepsRoom};
+ghost use Rattle.kernel_tables.specs.Shown.{node_of};
 ghost use Rattle.lwk_side.specs.Resting.{MayRest};
-ghost use Rattle.lwk_tables.specs.Rows.{FramesApart, FramesIn};
+ghost use Rattle.lwk_space.specs.Rows.{FramesApart, FramesIn};
 ghost use Rattle.lwk_views.specs.Views.{Did, DidAlone};
 ghost use Rattle.mck_word.specs.Words.{refused};
 ghost use Rattle.std.specs.Prelude.{◌≡◌, ◌≤◌, get_or};
@@ -18,9 +18,9 @@ use call_plan::arguments::int;
 use frame_mem::FrameMem;
 use isa_model::Stop;
 use kernel_model::Does;
-use lwk_node::Node;
+use kernel_tables::KernelTables;
 use lwk_signals::has;
-use lwk_tables::Space;
+use lwk_space::Space;
 use mck_word::{End, Regs, Tid};
 use page_map::PageTable;
 
@@ -58,7 +58,7 @@ fn signal_of(stop: Stop) -> u32
 }
 
 /// The thread raises number 0, which is no signal: it is masked, ignored and pending as signal 1 is.
-fn raises_none(node: &mut Node, t: Tid)
+fn raises_none(node: &mut KernelTables, t: Tid)
     ensures node { (files : Files) → node_of node.new files ≡ raised t.0 0 (node_of node.old files) }
     ensures room { KeepsRoom node.old node.new }
 {
@@ -72,7 +72,7 @@ fn raises_none(node: &mut Node, t: Tid)
 }
 
 /// The thread raises the signal.
-fn raises_number(node: &mut Node, t: Tid, signal: u32)
+fn raises_number(node: &mut KernelTables, t: Tid, signal: u32)
     requires { signal ≤ 64 }
     ensures node { (files : Files) → node_of node.new files ≡ raised t.0 signal (node_of node.old files) }
     ensures room { KeepsRoom node.old node.new }
@@ -85,14 +85,14 @@ fn raises_number(node: &mut Node, t: Tid, signal: u32)
 }
 
 /// The stop of the thread raises its signal.
-pub fn raises(node: &mut Node, t: Tid, stop: Stop)
+pub fn raises(node: &mut KernelTables, t: Tid, stop: Stop)
     ensures { DidAlone node.old node.new (on_node (raised t.0 (signal_of_stop stop))) }
 {
     raises_number(node, t, signal_of(stop));
 }
 
 /// A call that isn't known is refused.
-pub fn refuses_unknown(node: &mut Node, t: Tid)
+pub fn refuses_unknown(node: &mut KernelTables, t: Tid)
     ensures { DidAlone node.old node.new (answers t.0 (refused ENOSYS)) }
 {
     node.answered(t, NO_CALL);
@@ -100,7 +100,7 @@ pub fn refuses_unknown(node: &mut Node, t: Tid)
 
 /// A local call of the thread, which stands behind its ecall.
 pub fn local_call<T: PageTable>(
-    node: &mut Node,
+    node: &mut KernelTables,
     space: &Space<T>,
     mem: &mut FrameMem,
     t: Tid,

@@ -5,12 +5,12 @@ use Rattle.hybrid_model.specs.Spaces.{written_back}
 use Rattle.isa_model.specs.Memory.{Memory, may_access, write_bytes}
 use Rattle.kernel_model.specs.Nodes.{Node as KernelNode}
 use Rattle.kernel_model.specs.Signals.{Store, View, on_node, store, stored_all, try_store, view}
-use Rattle.lwk_node.specs.Shown.{node_of}
-use Rattle.lwk_node.specs.declared.tables.Node.{Node}
-use Rattle.lwk_tables.proofs.WrittenBack.{written-back}
-use Rattle.lwk_tables.specs.Frames.{frames_map}
-use Rattle.lwk_tables.specs.Lacks.{OthersStay, memory}
-use Rattle.lwk_tables.specs.Rows.{FramesIn}
+use Rattle.kernel_tables.specs.Shown.{node_of}
+use Rattle.kernel_tables.specs.declared.tables.KernelTables.{KernelTables}
+use Rattle.lwk_space.proofs.WrittenBack.{written-back}
+use Rattle.lwk_space.specs.Frames.{frames_map}
+use Rattle.lwk_space.specs.Lacks.{OthersStay, memory}
+use Rattle.lwk_space.specs.Rows.{FramesIn}
 use Rattle.lwk_views.proofs.Reading.{may_any}
 use Rattle.lwk_views.specs.Views.{Did, DidAlone, Stepped, seen, tried}
 use Rattle.mck_word.specs.Maps.{Map}
@@ -66,7 +66,7 @@ module _ (rows : Map Row) (pages : List (List ℕ)) where
   unstored node left v e h = record { began = h.began; now = h.now; stored = e ∙ h.stored }
 
   -- a step is done
-  pub did : (before after : Node) (left : List (List ℕ)) (word : View → View) → FramesIn rows pages → OthersStay rows pages left → length left ≡ length pages
+  pub did : (before after : KernelTables) (left : List (List ℕ)) (word : View → View) → FramesIn rows pages → OthersStay rows pages left → length left ≡ length pages
       → ((files : Files) → Stands rows pages (node_of after files) left (word (seen rows before pages files))) → Did rows before pages after left word
   did before after left word inside others len h = record {
     node = λ files. (h files).now;
@@ -75,17 +75,17 @@ module _ (rows : Map Row) (pages : List (List ℕ)) where
   }
 
   -- a step of the node alone
-  pub did_on_node : (before after : Node) (f : KernelNode → KernelNode) → FramesIn rows pages → Stepped before after f → Did rows before pages after pages (on_node f)
+  pub did_on_node : (before after : KernelTables) (f : KernelNode → KernelNode) → FramesIn rows pages → Stepped before after f → Did rows before pages after pages (on_node f)
   did_on_node before after f inside h = did before after pages (on_node f) inside (λ k none. refl) refl
       (λ files. steps f (node_of before files) (node_of after files) pages (seen rows before pages files) (h files) (begins (node_of before files)))
 
   -- and of the node after a step
-  pub did_then : (before middle after : Node) (left : List (List ℕ)) (word : View → View) (f : KernelNode → KernelNode) → Did rows before pages middle left word → Stepped middle after f
+  pub did_then : (before middle after : KernelTables) (left : List (List ℕ)) (word : View → View) (f : KernelNode → KernelNode) → Did rows before pages middle left word → Stepped middle after f
       → Did rows before pages after left (λ v. on_node f (word v))
   did_then before middle after left word f h g = record { node = λ files. g files ∙ ap f (h.node files); frames = h.frames; count = h.count }
 
   -- a word that comes to another where the step begins
-  pub did_as : (before after : Node) (left : List (List ℕ)) (word other : View → View) → ((files : Files) → other (seen rows before pages files) ≡ word (seen rows before pages files))
+  pub did_as : (before after : KernelTables) (left : List (List ℕ)) (word other : View → View) → ((files : Files) → other (seen rows before pages files) ≡ word (seen rows before pages files))
       → Did rows before pages after left word → Did rows before pages after left other
   did_as before after left word other e h = record {
     node = λ files. h.node files ∙ ap (λ (v : View). v.node) (sym (e files));
@@ -94,9 +94,9 @@ module _ (rows : Map Row) (pages : List (List ℕ)) where
   }
 
 -- a step that touches no memory
-pub did_alone : (before after : Node) (f : KernelNode → KernelNode) → Stepped before after f → DidAlone before after (on_node f)
+pub did_alone : (before after : KernelTables) (f : KernelNode → KernelNode) → Stepped before after f → DidAlone before after (on_node f)
 did_alone before after f h = λ rows pages inside. did_on_node rows pages before after f inside h
 
-pub did_alone_as : (before after : Node) (word other : View → View) → ((rows : Map Row) (pages : List (List ℕ)) (files : Files) → other (seen rows before pages files) ≡ word (seen rows before pages files))
+pub did_alone_as : (before after : KernelTables) (word other : View → View) → ((rows : Map Row) (pages : List (List ℕ)) (files : Files) → other (seen rows before pages files) ≡ word (seen rows before pages files))
     → DidAlone before after word → DidAlone before after other
 did_alone_as before after word other e h = λ rows pages inside. did_as rows pages before after pages word other (e rows pages) (h rows pages inside)

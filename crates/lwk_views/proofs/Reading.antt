@@ -2,9 +2,9 @@
 use Rattle.hybrid_model.specs.Sides.{Row}
 use Rattle.isa_model.specs.Memory.{Memory, may_access, write_bytes}
 use Rattle.isa_model.specs.declared.stops.Lack.{Lack}
-use Rattle.lwk_tables.proofs.BytesRead.{lacks-looked, not-allowed}
-use Rattle.lwk_tables.specs.Lacks.{IsFirstLack, OthersStay, memory}
-use Rattle.lwk_tables.specs.Rows.{FramesIn}
+use Rattle.lwk_space.proofs.BytesRead.{lacks-looked, not-allowed}
+use Rattle.lwk_space.specs.Lacks.{IsFirstLack, OthersStay, memory}
+use Rattle.lwk_space.specs.Rows.{FramesIn}
 use Rattle.lwk_views.specs.Views.{tried}
 use Rattle.mck_word.specs.Maps.{Map}
 use Rattle.mck_word.specs.declared.Access.TheVariants.{Write}

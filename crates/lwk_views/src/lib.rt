@@ -7,14 +7,14 @@
 #![tactic(auto)]
 
 ghost use Rattle.isa_model.specs.Memory.{may_access};
-ghost use Rattle.lwk_tables.specs.Lacks.{OthersStay, memory};
-ghost use Rattle.lwk_tables.specs.Rows.{FramesApart, FramesIn};
+ghost use Rattle.lwk_space.specs.Lacks.{OthersStay, memory};
+ghost use Rattle.lwk_space.specs.Rows.{FramesApart, FramesIn};
 ghost use Rattle.lwk_views.specs.Views.{read_or, tried};
 ghost use Rattle.mck_word.specs.declared.Access.TheVariants.{Read, Write};
 ghost use Rattle.std.specs.Prelude.{◌≡◌, ◌<◌, ◌^◌, List, length, ℕ};
 
 use frame_mem::FrameMem;
-use lwk_tables::Space;
+use lwk_space::Space;
 use mck_word::Access;
 use page_map::PageTable;
 

@@ -1,9 +1,9 @@
 -- A thread behind its ecall: what it may do there.
 use Rattle.kernel_model.specs.LocalCalls.{waiters}
 use Rattle.kernel_model.specs.Nodes.{Node as KernelNode, Thread, change_thread, has_process, has_thread, most_threads, no_thread, set_pc, thread_of}
-use Rattle.lwk_node.specs.Room.{KeepsRoom}
-use Rattle.lwk_node.specs.Shown.{node_of}
-use Rattle.lwk_node.specs.declared.tables.Node.{Node}
+use Rattle.kernel_tables.specs.Room.{KeepsRoom}
+use Rattle.kernel_tables.specs.Shown.{node_of}
+use Rattle.kernel_tables.specs.declared.tables.KernelTables.{KernelTables}
 use Rattle.mck_word.specs.MapLaws.{at-put}
 use Rattle.mck_word.specs.Maps.{Map, at, change, change_row}
 use Rattle.one_calls.specs.Resting.{MayClone, MayFork, MayRest}
@@ -46,7 +46,7 @@ module _ (t : ℕ) where
   unfolding row
   thread-kept k = ap is_some (at-changed k.threads t (λ (x : Thread). record x { regs = set_pc (x.regs.pc + 4) x.regs })) ∙ there-row (at k.threads t)
 
-  module _ (before after : Node) (room : KeepsRoom before after) (step : Stepped before after (behind t)) where
+  module _ (before after : KernelTables) (room : KeepsRoom before after) (step : Stepped before after (behind t)) where
     pub may-rest : MayRest before t → MayRest after t
     may-rest h = record {
       room = let a = h.room in let b = room.sleepers in omega (arith, a, b);

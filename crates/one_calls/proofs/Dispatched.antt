@@ -3,19 +3,19 @@ use Rattle.isa_model.specs.Memory.{Memory}
 use Rattle.kernel_model.specs.Calls.{one_of_calls}
 use Rattle.kernel_model.specs.CloneCalls.{wait4}
 use Rattle.kernel_model.specs.Signals.{View}
-use Rattle.lwk_node.specs.declared.tables.Node.{Node}
+use Rattle.kernel_tables.specs.declared.tables.KernelTables.{KernelTables}
 use Rattle.mck_word.specs.Words.{int_argument}
 use Rattle.one_calls.proofs.Doing.{alone_did, did_as}
 use Rattle.one_calls.specs.Views.{Did, DidAlone, seen}
 use Rattle.std.proofs.Common.{ap, refl, ◌∙◌, ◌≡◌}
 use Rattle.std.specs.Prelude.{false, ℕ, ◌%◌, ◌==◌, ◌^◌}
 
-module _ (before after : Node) (m left : Memory) (t number n : ℕ) (a : ℕ → ℕ) (word : View → View) (e : number ≡ n) (h : (v : View) → one_of_calls t n a v ≡ word v) where
+module _ (before after : KernelTables) (m left : Memory) (t number n : ℕ) (a : ℕ → ℕ) (word : View → View) (e : number ≡ n) (h : (v : View) → one_of_calls t n a v ≡ word v) where
   pub by-number : Did before m after left word → Did before m after left (one_of_calls t number a)
   by-number d = did_as m before after left word (one_of_calls t number a) (λ files. ap (λ k. one_of_calls t k a (seen before m files)) e ∙ h (seen before m files)) d
 
 -- and one that touches no memory
-pub alone-by-number : (before after : Node) (m : Memory) (t number n : ℕ) (a : ℕ → ℕ) (word : View → View) → number ≡ n → ((v : View) → one_of_calls t n a v ≡ word v)
+pub alone-by-number : (before after : KernelTables) (m : Memory) (t number n : ℕ) (a : ℕ → ℕ) (word : View → View) → number ≡ n → ((v : View) → one_of_calls t n a v ≡ word v)
     → DidAlone before after word → Did before m after m (one_of_calls t number a)
 alone-by-number before after m t number n a word e h d = by-number before after m m t number n a word e h (alone_did m before after word d)
 

@@ -14,8 +14,8 @@ use Rattle.kernel_model.specs.Plans.{plan}
 use Rattle.kernel_model.specs.Signals.{Store, View, stored_all}
 use Rattle.kernel_model.specs.Steps.{one_trap, one_trapped, one_view}
 use Rattle.kernel_model.specs.Traps.{Forks, Trapped, arguments_of, cloned, past_ecall, planned, trap, trap_of_stop}
-use Rattle.lwk_node.specs.Shown.{node_of}
-use Rattle.lwk_node.specs.declared.tables.Node.{Node}
+use Rattle.kernel_tables.specs.Shown.{node_of}
+use Rattle.kernel_tables.specs.declared.tables.KernelTables.{KernelTables}
 use Rattle.mck_word.specs.Maps.{Map, at, change, change_row, count, no_rows}
 use Rattle.mck_word.specs.Words.{has_bit, little_endian, refused}
 use Rattle.mck_word.specs.declared.Access.TheVariants.{Write}
@@ -118,7 +118,7 @@ child-told child flags child_tid m before after same e = e ∙ go (has_bit 24 fl
     go false y z k = refl
 
 -- ---- the process that begins
-pub fork-here : (before after : Node) (m left child : Memory) (r : Rest) (p t : ℕ) (q : Pid) (v : View) (stores : List Store) → node_of after (share p q.0 r.files) ≡ v.node → left ≡ stored_all v.stores m → child ≡ stored_all stores left
+pub fork-here : (before after : KernelTables) (m left child : Memory) (r : Rest) (p t : ℕ) (q : Pid) (v : View) (stores : List Store) → node_of after (share p q.0 r.files) ≡ v.node → left ≡ stored_all v.stores m → child ≡ stored_all stores left
     → here_with after left child (count m) p (Some q) r ≡ one_trapped p t (Forks v q.0 stores) (here before m r)
 fork-here before after m left child r p t q v stores node memory born = λ i. record {
   own = record { memory = memory i; calls = r.calls };

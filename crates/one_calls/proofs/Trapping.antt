@@ -9,7 +9,7 @@ use Rattle.kernel_model.specs.OneKernel.{OneHere}
 use Rattle.kernel_model.specs.Signals.{View, on_node, raised, signal_of_stop}
 use Rattle.kernel_model.specs.Steps.{one_trap, one_trapped, one_view, with_view}
 use Rattle.kernel_model.specs.Traps.{Done, cloned, trap, trap_of_stop}
-use Rattle.lwk_node.specs.declared.tables.Node.{Node}
+use Rattle.kernel_tables.specs.declared.tables.KernelTables.{KernelTables}
 use Rattle.one_calls.specs.Calls.{one_call}
 use Rattle.one_calls.specs.Here.{Rest, here}
 use Rattle.one_calls.specs.LocalTraps.{is_fork}
@@ -18,7 +18,7 @@ use Rattle.std.proofs.Common.{ap, arith, refl, sym}
 use Rattle.std.specs.Prelude.{Bool, List, None, Option, Some, cond, false, get_or, true, ℕ, ◌&&◌, ◌==◌, ◌≡◌, ◌≢◌}
 
 -- a step on a view is the step of the process
-pub did-here : (before : Node) (m : Memory) (after : Node) (left : Memory) (word : View → View) → Did before m after left word
+pub did-here : (before : KernelTables) (m : Memory) (after : KernelTables) (left : Memory) (word : View → View) → Did before m after left word
     → (r : Rest) → here after left r ≡ with_view (word (one_view (here before m r))) (here before m r)
 did-here before m after left word d r = λ i. record {
   own = record { memory = d.memory r.files i; calls = r.calls };
@@ -28,7 +28,7 @@ did-here before m after left word d r = λ i. record {
 }
 
 -- and so is one that touches no memory
-pub alone-here : (before : Node) (m : Memory) (after : Node) (word : View → View) → DidAlone before after word
+pub alone-here : (before : KernelTables) (m : Memory) (after : KernelTables) (word : View → View) → DidAlone before after word
     → (r : Rest) → here after m r ≡ with_view (word (one_view (here before m r))) (here before m r)
 alone-here before m after word d r = ap (λ (v : View). with_view v (here before m r)) (d r.files m)
 

@@ -2,8 +2,8 @@
 use Rattle.file_model.specs.Files.{Files, share}
 use Rattle.isa_model.specs.Memory.{Memory}
 use Rattle.kernel_model.specs.OneKernel.{Call, OneHere}
-use Rattle.lwk_node.specs.Shown.{node_of}
-use Rattle.lwk_node.specs.declared.tables.Node.{Node}
+use Rattle.kernel_tables.specs.Shown.{node_of}
+use Rattle.kernel_tables.specs.declared.tables.KernelTables.{KernelTables}
 use Rattle.mck_word.specs.Maps.{Map, no_rows}
 use Rattle.mck_word.specs.declared.Pid.{Pid}
 use Rattle.std.specs.Prelude.{None, Option, Some, ℕ, ◌-◌}
@@ -14,10 +14,10 @@ pub record Rest : Type 0 where
   pub calls : Map Call
   pub free : ℕ
 
-abbrev pub here : Node → Memory → Rest → OneHere
+abbrev pub here : KernelTables → Memory → Rest → OneHere
 here node m r = record { own = record { memory = m; calls = r.calls }; node = node_of node r.files; free = r.free; born = None }
 
 -- beside it the process that a fork makes, if it does, which has its parent's descriptors, and takes as many frames as its parent had pages
-abbrev pub here_with : Node → Memory → Memory → ℕ → ℕ → Option Pid → Rest → OneHere
+abbrev pub here_with : KernelTables → Memory → Memory → ℕ → ℕ → Option Pid → Rest → OneHere
 here_with node m child pages p None r = here node m r
 here_with node m child pages p (Some q) r = record (here node m (record r { files = share p q.0 r.files; free = r.free - pages })) { born = Some (q.0, record { memory = child; calls = no_rows }) }

@@ -8,7 +8,7 @@ ghost use Rattle.std.specs.Prelude.{◌≡◌, ◌≤◌, ◌==◌, cond, true};
 use crate::answering::{EFAULT, EINVAL};
 use crate::pointers::{lacks_access, store_at};
 use kernel_model::Action;
-use lwk_node::Node;
+use kernel_tables::KernelTables;
 use lwk_signals::{ACTION_SIZE, action_in, put_action};
 use mck_word::{Pid, Tid};
 use one_memory::PageRows;
@@ -58,7 +58,7 @@ fn store_action(memory: &mut PageRows, old: u64, a: &Action)
 }
 
 /// The process does something else at the signal, where an action is given; what it ignores from now on is dropped.
-fn give_action(node: &mut Node, p: Pid, signal: u32, action: Option<Action>)
+fn give_action(node: &mut KernelTables, p: Pid, signal: u32, action: Option<Action>)
     requires least { 1 ≤ signal }
     requires most { signal ≤ 64 }
     ensures { Stepped node.old node.new (given_action p.0 signal action) }
@@ -70,7 +70,14 @@ fn give_action(node: &mut Node, p: Pid, signal: u32, action: Option<Action>)
 }
 
 /// An rt_sigaction that isn't refused.
-fn sets_action(node: &mut Node, memory: &mut PageRows, t: Tid, signal: u32, act: u64, old: u64)
+fn sets_action(
+    node: &mut KernelTables,
+    memory: &mut PageRows,
+    t: Tid,
+    signal: u32,
+    act: u64,
+    old: u64,
+)
     requires least { 1 ≤ signal }
     requires most { signal ≤ 64 }
     requires read { readable memory.old.map act 24 ≡ true }
@@ -87,7 +94,7 @@ fn sets_action(node: &mut Node, memory: &mut PageRows, t: Tid, signal: u32, act:
 
 /// rt_sigaction: the action of the signal is told, and another one is given in its place, each where it is asked for.
 pub fn sigaction(
-    node: &mut Node,
+    node: &mut KernelTables,
     memory: &mut PageRows,
     t: Tid,
     signal: i32,

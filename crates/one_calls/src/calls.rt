@@ -16,7 +16,7 @@ use crate::{
     tgkill, wait4,
 };
 use call_plan::arguments::int;
-use lwk_node::Node;
+use kernel_tables::KernelTables;
 use mck_word::{Regs, Tid};
 use one_memory::PageRows;
 
@@ -43,7 +43,13 @@ pub fn arguments_of(regs: &Regs) -> [u64; 6]
 }
 
 /// A local call of the thread that is no clone.
-fn one_of_calls(node: &mut Node, memory: &mut PageRows, t: Tid, number: u64, args: &[u64; 6])
+fn one_of_calls(
+    node: &mut KernelTables,
+    memory: &mut PageRows,
+    t: Tid,
+    number: u64,
+    args: &[u64; 6],
+)
     requires { number ≡ 98 → MayRest node.old t.0 }
     ensures { Did node.old memory.old.map node.new memory.new.map (any_of_calls t.0 number (λ k. get_or args.now k 0)) }
 {
@@ -76,7 +82,13 @@ fn one_of_calls(node: &mut Node, memory: &mut PageRows, t: Tid, number: u64, arg
 }
 
 /// A local call of the thread that is no fork, by its number and arguments.
-pub fn local_call(node: &mut Node, memory: &mut PageRows, t: Tid, number: u64, args: &[u64; 6])
+pub fn local_call(
+    node: &mut KernelTables,
+    memory: &mut PageRows,
+    t: Tid,
+    number: u64,
+    args: &[u64; 6],
+)
     requires rest { number ≡ 98 → MayRest node.old t.0 }
     requires clone { number ≡ 220 → MayClone node.old t.0 }
     ensures { Did node.old memory.old.map node.new memory.new.map (one_call t.0 number args.now) }
@@ -89,7 +101,13 @@ pub fn local_call(node: &mut Node, memory: &mut PageRows, t: Tid, number: u64, a
 }
 
 /// A local call of the thread that is no fork is made, behind its ecall.
-pub fn calls_locally(node: &mut Node, memory: &mut PageRows, t: Tid, number: u64, args: &[u64; 6])
+pub fn calls_locally(
+    node: &mut KernelTables,
+    memory: &mut PageRows,
+    t: Tid,
+    number: u64,
+    args: &[u64; 6],
+)
     requires rest { number ≡ 98 → MayRest node.old t.0 }
     requires clone { number ≡ 220 → MayClone node.old t.0 }
     ensures { Did node.old memory.old.map node.new memory.new.map (λ v. one_call t.0 number args.now (past_ecall t.0 v)) }
@@ -99,7 +117,7 @@ pub fn calls_locally(node: &mut Node, memory: &mut PageRows, t: Tid, number: u64
 }
 
 /// A call of the thread that isn't known is refused, behind its ecall.
-pub fn refuses_call(node: &mut Node, t: Tid)
+pub fn refuses_call(node: &mut KernelTables, t: Tid)
     ensures { DidAlone node.old node.new (λ v. answers t.0 (refused ENOSYS) (past_ecall t.0 v)) }
 {
     node.past_ecall(t);

@@ -2,14 +2,14 @@
 ghost use Rattle.file_model.specs.Files.{Files};
 ghost use Rattle.kernel_model.specs.CloneCalls.{are_clone_flags, clone, clones};
 ghost use Rattle.kernel_model.specs.Nodes.{most_threads, thread_of, threads_of};
-ghost use Rattle.lwk_node.specs.Shown.{node_of};
+ghost use Rattle.kernel_tables.specs.Shown.{node_of};
 ghost use Rattle.one_calls.specs.Resting.{MayClone};
 ghost use Rattle.one_calls.specs.Views.{Did};
 ghost use Rattle.std.specs.Prelude.{◌≡◌, ◌<◌, length, slice_index};
 
 use crate::answering::{EAGAIN, EINVAL, has_bit, minus};
 use crate::numbers::tells_number;
-use lwk_node::Node;
+use kernel_tables::KernelTables;
 use mck_word::Tid;
 use one_memory::PageRows;
 
@@ -36,7 +36,7 @@ fn are_clone_flags(flags: u64) -> bool
 }
 
 /// A clone that isn't refused, by the arguments flags, stack, parent tid, tls and child tid.
-fn clones(node: &mut Node, memory: &mut PageRows, t: Tid, args: &[u64; 6])
+fn clones(node: &mut KernelTables, memory: &mut PageRows, t: Tid, args: &[u64; 6])
     requires may { MayClone node.old t.0 }
     requires few { (files : Files) → length (threads_of (node_of node.old files) (thread_of (node_of node.old files) t.0).process) < most_threads }
     ensures { Did node.old memory.old.map node.new memory.new.map (clones t.0 (slice_index args.now 0) (slice_index args.now 1) (slice_index args.now 2) (slice_index args.now 3) (slice_index args.now 4)) }
@@ -51,7 +51,7 @@ fn clones(node: &mut Node, memory: &mut PageRows, t: Tid, args: &[u64; 6])
 
 /// clone, where the flags aren't those of a fork: a thread begins beside the caller, by the arguments flags, stack, parent tid, tls and
 /// child tid.
-pub fn clone(node: &mut Node, memory: &mut PageRows, t: Tid, args: &[u64; 6])
+pub fn clone(node: &mut KernelTables, memory: &mut PageRows, t: Tid, args: &[u64; 6])
     requires { MayClone node.old t.0 }
     ensures { Did node.old memory.old.map node.new memory.new.map (clone t.0 (slice_index args.now 0) (slice_index args.now 1) (slice_index args.now 2) (slice_index args.now 3) (slice_index args.now 4)) }
 {

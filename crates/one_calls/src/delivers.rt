@@ -7,7 +7,7 @@ ghost use Rattle.one_calls.specs.Views.{Did};
 ghost use Rattle.std.specs.Prelude.{◌≡◌, ◌≤◌, cond};
 
 use kernel_model::Action;
-use lwk_node::Node;
+use kernel_tables::KernelTables;
 use lwk_signals::{FRAME_SIZE, frame_address, interrupted_regs, pop_frame, push_frame};
 use mck_flags::SigSet;
 use mck_word::{End, Regs, Tid};
@@ -28,7 +28,7 @@ fn store_frame(memory: &mut PageRows, sp: u64, r: &Regs, mask: SigSet) -> bool
 }
 
 /// The thread begins the handler of the action, behind its frame; where that can't be stored, its process is killed.
-fn enter_handler(node: &mut Node, memory: &mut PageRows, t: Tid, signal: u32, a: &Action)
+fn enter_handler(node: &mut KernelTables, memory: &mut PageRows, t: Tid, signal: u32, a: &Action)
     requires least { 1 ≤ signal }
     requires most { signal ≤ 64 }
     ensures { Did node.old memory.old.map node.new memory.new.map (enter_handler t.0 signal a.now) }
@@ -47,7 +47,7 @@ fn enter_handler(node: &mut Node, memory: &mut PageRows, t: Tid, signal: u32, a:
 }
 
 /// The signal, which was taken, is delivered: it kills the process of the thread, or the thread begins its handler.
-fn deliver_signal(node: &mut Node, memory: &mut PageRows, t: Tid, signal: u32)
+fn deliver_signal(node: &mut KernelTables, memory: &mut PageRows, t: Tid, signal: u32)
     requires least { 1 ≤ signal }
     requires most { signal ≤ 64 }
     ensures { Did node.old memory.old.map node.new memory.new.map (deliver_signal t.0 signal) }
@@ -63,7 +63,7 @@ fn deliver_signal(node: &mut Node, memory: &mut PageRows, t: Tid, signal: u32)
 }
 
 /// The next signal of the thread, where there is one, is taken and delivered.
-pub fn deliver(node: &mut Node, memory: &mut PageRows, t: Tid)
+pub fn deliver(node: &mut KernelTables, memory: &mut PageRows, t: Tid)
     ensures { Did node.old memory.old.map node.new memory.new.map (deliver t.0) }
 {
     if let Some(signal) = node.next_signal(t) {
@@ -80,7 +80,7 @@ fn stack_pointer(r: &Regs) -> u64
 }
 
 /// rt_sigreturn: the registers and the mask come back from the frame at the stack pointer; where that can't be read, 11 is raised.
-pub fn return_from_handler(node: &mut Node, memory: &PageRows, t: Tid)
+pub fn return_from_handler(node: &mut KernelTables, memory: &PageRows, t: Tid)
     ensures { Did node.old memory.now.map node.new memory.now.map (return_from_handler t.0) }
 {
     let sp = stack_pointer(&node.regs(t));

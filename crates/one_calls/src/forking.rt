@@ -3,7 +3,7 @@ ghost use Rattle.file_model.specs.Files.{Files, share};
 ghost use Rattle.kernel_model.specs.CloneCalls.{are_fork_flags};
 ghost use Rattle.kernel_model.specs.Nodes.{thread_of};
 ghost use Rattle.kernel_model.specs.Signals.{stored_all};
-ghost use Rattle.lwk_node.specs.Shown.{node_of};
+ghost use Rattle.kernel_tables.specs.Shown.{node_of};
 ghost use Rattle.mck_word.specs.Words.{has_bit};
 ghost use Rattle.one_calls.specs.Resting.{MayFork};
 ghost use Rattle.one_calls.specs.Views.{seen};
@@ -13,7 +13,7 @@ ghost use Rattle.std.specs.Prelude.{◌≡◌, slice_index};
 use crate::answering::{EAGAIN, ENOMEM, has_bit, minus};
 use crate::cloning::{CHILD_SETTID, PARENT_SETTID};
 use crate::numbers::tells_number;
-use lwk_node::Node;
+use kernel_tables::KernelTables;
 use mck_word::{Pid, Tid};
 use one_memory::PageRows;
 
@@ -47,7 +47,7 @@ pub fn fork_refusal(processes: usize, free: u64, pages: u64) -> Option<i64>
 
 /// A fork that isn't refused, by the arguments flags, stack, parent tid, tls and child tid: a process and its first thread begin, the
 /// parent is told the number, and the caller is answered it.
-pub fn begins_child(node: &mut Node, memory: &mut PageRows, t: Tid, args: &[u64; 6]) -> Pid
+pub fn begins_child(node: &mut KernelTables, memory: &mut PageRows, t: Tid, args: &[u64; 6]) -> Pid
     requires { MayFork node.old t.0 }
     ensures number { (files : Files) → result.0 ≡ (node_of node.old files).next_number }
     ensures node { (files : Files) → node_of node.new (share (thread_of (node_of node.old files) t.0).process result.0 files)

@@ -5,7 +5,7 @@ ghost use Rattle.kernel_model.specs.LocalCalls.{answers};
 ghost use Rattle.kernel_model.specs.Nodes.{thread_of};
 ghost use Rattle.kernel_model.specs.Steps.{one_trap, one_trapped, one_view};
 ghost use Rattle.kernel_model.specs.Traps.{cloned, past_ecall};
-ghost use Rattle.lwk_node.specs.Shown.{node_of};
+ghost use Rattle.kernel_tables.specs.Shown.{node_of};
 ghost use Rattle.mck_word.specs.Maps.{count, no_rows};
 ghost use Rattle.one_calls.specs.Here.{Rest, here, here_with};
 ghost use Rattle.one_calls.specs.LocalTraps.{calls_fork};
@@ -15,13 +15,13 @@ ghost use Rattle.std.specs.Prelude.{◌≡◌, ◌≤◌, Some, slice_index, tru
 
 use crate::calls::arguments_of;
 use crate::forking::{begins_child, fork_refusal, tells_child};
-use lwk_node::Node;
+use kernel_tables::KernelTables;
 use mck_word::{Pid, Tid};
 use one_memory::PageRows;
 
 /// A fork that isn't refused: a process begins with a copy of the memory, and with its own stores.
 fn forks(
-    node: &mut Node,
+    node: &mut KernelTables,
     memory: &mut PageRows,
     unborn: &mut PageRows,
     p: Pid,
@@ -43,7 +43,7 @@ fn forks(
 }
 
 /// A fork that is refused is answered so, behind its ecall.
-fn refuses_fork(node: &mut Node, t: Tid, answer: i64)
+fn refuses_fork(node: &mut KernelTables, t: Tid, answer: i64)
     ensures { DidAlone node.old node.new (λ v. answers t.0 answer (past_ecall t.0 v)) }
 {
     node.past_ecall(t);
@@ -53,7 +53,7 @@ fn refuses_fork(node: &mut Node, t: Tid, answer: i64)
 /// The trap of a thread of the process that is a fork, with so many frames free. It answers the number of the process that begins, whose
 /// memory is then `unborn`, and None where the fork is refused.
 pub fn fork(
-    node: &mut Node,
+    node: &mut KernelTables,
     memory: &mut PageRows,
     unborn: &mut PageRows,
     p: Pid,

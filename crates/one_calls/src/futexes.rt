@@ -9,7 +9,7 @@ ghost use Rattle.std.specs.Prelude.{◌≡◌};
 use crate::answering::{EAGAIN, EFAULT, EINVAL, ENOSYS, minus};
 use crate::numbers::word_at;
 use call_plan::arguments::int;
-use lwk_node::Node;
+use kernel_tables::KernelTables;
 use mck_word::Tid;
 use one_memory::PageRows;
 
@@ -38,7 +38,14 @@ fn wait_refusal(memory: &PageRows, address: u64, val: u64, timeout: u64) -> Opti
 }
 
 /// The thread sleeps at the address, where the number there is `val`.
-fn futex_wait(node: &mut Node, memory: &PageRows, t: Tid, address: u64, val: u64, timeout: u64)
+fn futex_wait(
+    node: &mut KernelTables,
+    memory: &PageRows,
+    t: Tid,
+    address: u64,
+    val: u64,
+    timeout: u64,
+)
     requires { MayRest node.old t.0 }
     ensures { Did node.old memory.now.map node.new memory.now.map (futex_wait t.0 address val timeout) }
 {
@@ -56,7 +63,7 @@ fn wake_count(val: i32) -> u32
 }
 
 /// The first of those that sleep at the address wake, and the answer is their number.
-fn futex_wake(node: &mut Node, t: Tid, address: u64, val: i32)
+fn futex_wake(node: &mut KernelTables, t: Tid, address: u64, val: i32)
     ensures { DidAlone node.old node.new (futex_wake t.0 address val) }
 {
     if address % 4 != 0 {
@@ -77,7 +84,7 @@ fn futex_operation(op: u64) -> u64
 
 /// futex: the thread sleeps at the address or wakes others there. It sleeps nowhere itself, and fewer than sixteen sleep there.
 pub fn futex(
-    node: &mut Node,
+    node: &mut KernelTables,
     memory: &PageRows,
     t: Tid,
     address: u64,

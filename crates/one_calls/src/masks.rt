@@ -9,7 +9,7 @@ ghost use Rattle.std.specs.Prelude.{◌≡◌, ◌≤◌, ◌==◌, cond, true};
 
 use crate::answering::{EFAULT, EINVAL};
 use crate::pointers::{lacks_access, store_at};
-use lwk_node::Node;
+use kernel_tables::KernelTables;
 use lwk_signals::{SET_SIZE, put_set, set_in};
 use mck_flags::SigSet;
 use mck_word::Tid;
@@ -46,7 +46,7 @@ fn store_set(memory: &mut PageRows, old: u64, set: SigSet)
 }
 
 /// The thread has another mask, where a set is given.
-fn give_mask(node: &mut Node, t: Tid, how: i32, set: Option<SigSet>)
+fn give_mask(node: &mut KernelTables, t: Tid, how: i32, set: Option<SigSet>)
     ensures { Stepped node.old node.new (given_mask t.0 how set) }
 {
     if let Some(set) = set {
@@ -55,7 +55,14 @@ fn give_mask(node: &mut Node, t: Tid, how: i32, set: Option<SigSet>)
 }
 
 /// An rt_sigprocmask that isn't refused.
-fn sets_mask(node: &mut Node, memory: &mut PageRows, t: Tid, how: i32, address: u64, old: u64)
+fn sets_mask(
+    node: &mut KernelTables,
+    memory: &mut PageRows,
+    t: Tid,
+    how: i32,
+    address: u64,
+    old: u64,
+)
     requires read { readable memory.old.map address 8 ≡ true }
     requires written { writable memory.old.map old 8 ≡ true }
     ensures { Did node.old memory.old.map node.new memory.new.map (sets_mask t.0 how address old) }
@@ -69,7 +76,7 @@ fn sets_mask(node: &mut Node, memory: &mut PageRows, t: Tid, how: i32, address: 
 
 /// rt_sigprocmask: the mask is told, and changed by a set, each where it is asked for.
 pub fn sigprocmask(
-    node: &mut Node,
+    node: &mut KernelTables,
     memory: &mut PageRows,
     t: Tid,
     how: i32,
@@ -101,7 +108,7 @@ fn store_part(memory: &mut PageRows, address: u64, size: u64, set: SigSet) -> bo
 }
 
 /// rt_sigpending: the signals that are pending and masked are told, as many bytes of the set as are asked for.
-pub fn sigpending(node: &mut Node, memory: &mut PageRows, t: Tid, address: u64, size: u64)
+pub fn sigpending(node: &mut KernelTables, memory: &mut PageRows, t: Tid, address: u64, size: u64)
     ensures { Did node.old memory.old.map node.new memory.new.map (sigpending t.0 address size) }
 {
     if size > 8 {

@@ -6,11 +6,11 @@ ghost use Rattle.one_calls.specs.Views.{DidAlone};
 ghost use Rattle.std.specs.Prelude.{pos};
 
 use crate::answering::EINVAL;
-use lwk_node::Node;
+use kernel_tables::KernelTables;
 use mck_word::Tid;
 
 /// set_tid_address: the address is cleared when the thread ends, and the answer is the thread's number.
-pub fn sets_clear_address(node: &mut Node, t: Tid, address: u64)
+pub fn sets_clear_address(node: &mut KernelTables, t: Tid, address: u64)
     ensures { DidAlone node.old node.new (sets_clear_address t.0 address) }
 {
     node.set_clear_address(t, address);
@@ -18,21 +18,21 @@ pub fn sets_clear_address(node: &mut Node, t: Tid, address: u64)
 }
 
 /// set_robust_list: nothing is kept; a list's head of another length than 24 bytes is refused.
-pub fn sets_robust_list(node: &mut Node, t: Tid, len: u64)
+pub fn sets_robust_list(node: &mut KernelTables, t: Tid, len: u64)
     ensures { DidAlone node.old node.new (sets_robust_list t.0 len) }
 {
     node.answered(t, if len == 24 { 0 } else { EINVAL });
 }
 
 /// sched_yield: the answer is 0.
-pub fn answers_zero(node: &mut Node, t: Tid)
+pub fn answers_zero(node: &mut KernelTables, t: Tid)
     ensures { DidAlone node.old node.new (answers t.0 (pos 0)) }
 {
     node.answered(t, 0);
 }
 
 /// getpid: the number of the thread's process.
-pub fn getpid(node: &mut Node, t: Tid)
+pub fn getpid(node: &mut KernelTables, t: Tid)
     ensures { DidAlone node.old node.new (λ v. answers t.0 (pos (thread_of v.node t.0).process) v) }
 {
     let p = node.process_of_thread(t);
@@ -40,7 +40,7 @@ pub fn getpid(node: &mut Node, t: Tid)
 }
 
 /// getppid: the number of the parent of the thread's process, or 0 where it is Ended or there is none.
-pub fn getppid(node: &mut Node, t: Tid)
+pub fn getppid(node: &mut KernelTables, t: Tid)
     ensures { DidAlone node.old node.new (λ v. answers t.0 (pos (parent_number v.node (thread_of v.node t.0).process)) v) }
 {
     let p = node.process_of_thread(t);
@@ -49,7 +49,7 @@ pub fn getppid(node: &mut Node, t: Tid)
 }
 
 /// gettid: the thread's number.
-pub fn gettid(node: &mut Node, t: Tid)
+pub fn gettid(node: &mut KernelTables, t: Tid)
     ensures { DidAlone node.old node.new (answers t.0 (pos t.0)) }
 {
     node.answered(t, t.0 as i64);

@@ -1,13 +1,13 @@
 // Stops that are no calls: each raises a signal of its own.
 ghost use Rattle.file_model.specs.Files.{Files};
 ghost use Rattle.kernel_model.specs.Signals.{on_node, raised, signal_of_stop};
-ghost use Rattle.lwk_node.specs.Shown.{node_of};
+ghost use Rattle.kernel_tables.specs.Shown.{node_of};
 ghost use Rattle.one_calls.specs.Views.{DidAlone};
 ghost use Rattle.std.specs.Prelude.{◌≡◌, ◌≤◌};
 
 use isa_model::Stop;
 use kernel_model::Does;
-use lwk_node::Node;
+use kernel_tables::KernelTables;
 use lwk_signals::has;
 use mck_word::{End, Tid};
 
@@ -26,7 +26,7 @@ fn signal_of(stop: Stop) -> u32
 }
 
 /// The thread raises number 0, which is no signal: it is masked, ignored and pending as signal 1 is.
-fn raises_none(node: &mut Node, t: Tid)
+fn raises_none(node: &mut KernelTables, t: Tid)
     ensures { (files : Files) → node_of node.new files ≡ raised t.0 0 (node_of node.old files) }
 {
     let p = node.process_of_thread(t);
@@ -39,7 +39,7 @@ fn raises_none(node: &mut Node, t: Tid)
 }
 
 /// The thread raises the signal.
-fn raises_number(node: &mut Node, t: Tid, signal: u32)
+fn raises_number(node: &mut KernelTables, t: Tid, signal: u32)
     requires { signal ≤ 64 }
     ensures { (files : Files) → node_of node.new files ≡ raised t.0 signal (node_of node.old files) }
 {
@@ -51,7 +51,7 @@ fn raises_number(node: &mut Node, t: Tid, signal: u32)
 }
 
 /// The stop of the thread raises its signal.
-pub fn raises(node: &mut Node, t: Tid, stop: Stop)
+pub fn raises(node: &mut KernelTables, t: Tid, stop: Stop)
     ensures { DidAlone node.old node.new (on_node (raised t.0 (signal_of_stop stop))) }
 {
     raises_number(node, t, signal_of(stop));

@@ -3,12 +3,12 @@ ghost use Rattle.file_model.specs.Files.{Files};
 ghost use Rattle.kernel_model.specs.Nodes.{is_there};
 ghost use Rattle.kernel_model.specs.SignalCalls.{checked_signal, has_thread_in, kill, kills, kills_thread, positive, send, tgkill};
 ghost use Rattle.kernel_model.specs.Signals.{generate_for_process, generate_for_thread};
-ghost use Rattle.lwk_node.specs.Shown.{node_of};
+ghost use Rattle.kernel_tables.specs.Shown.{node_of};
 ghost use Rattle.one_calls.specs.Views.{DidAlone, Stepped};
 ghost use Rattle.std.specs.Prelude.{◌&&◌, ◌≡◌, ◌≤◌, MatchOption};
 
 use crate::answering::{EINVAL, ESRCH};
-use lwk_node::Node;
+use kernel_tables::KernelTables;
 use lwk_signals::may_be_sent;
 use mck_word::{Pid, Tid};
 
@@ -36,7 +36,7 @@ fn checked_signal(n: i32) -> Option<u32>
 }
 
 /// The signal is generated for the process; 0 is no signal.
-fn send_to_process(node: &mut Node, p: Pid, signal: u32)
+fn send_to_process(node: &mut KernelTables, p: Pid, signal: u32)
     requires { signal ≤ 64 }
     ensures { Stepped node.old node.new (send signal (generate_for_process p.0)) }
 {
@@ -46,7 +46,7 @@ fn send_to_process(node: &mut Node, p: Pid, signal: u32)
 }
 
 /// A kill whose arguments are right: the process is there, or the caller is refused.
-fn kills(node: &mut Node, t: Tid, p: Pid, signal: u32)
+fn kills(node: &mut KernelTables, t: Tid, p: Pid, signal: u32)
     requires { signal ≤ 64 }
     ensures { DidAlone node.old node.new (kills t.0 p.0 signal) }
 {
@@ -59,7 +59,7 @@ fn kills(node: &mut Node, t: Tid, p: Pid, signal: u32)
 }
 
 /// kill: the signal is generated for a process; 0 only asks whether the process is there.
-pub fn kill(node: &mut Node, t: Tid, pid: i32, signal: i32)
+pub fn kill(node: &mut KernelTables, t: Tid, pid: i32, signal: i32)
     ensures { DidAlone node.old node.new (kill t.0 pid signal) }
 {
     match positive(pid) {
@@ -72,21 +72,21 @@ pub fn kill(node: &mut Node, t: Tid, pid: i32, signal: i32)
 }
 
 /// Whether the thread lives and is one of the process.
-fn has_thread_in(node: &Node, p: Pid, t: Tid) -> bool
+fn has_thread_in(node: &KernelTables, p: Pid, t: Tid) -> bool
     ensures { (files : Files) → result ≡ has_thread_in (node_of node.now files) p.0 t.0 }
 {
     node.has_thread(t) && node.process_of_thread(t).0 == p.0
 }
 
 /// Whether the process is there and has the thread.
-fn is_thread_there(node: &Node, p: Pid, t: Tid) -> bool
+fn is_thread_there(node: &KernelTables, p: Pid, t: Tid) -> bool
     ensures { (files : Files) → result ≡ (is_there (node_of node.now files) p.0 && has_thread_in (node_of node.now files) p.0 t.0) }
 {
     node.is_there(p) && has_thread_in(node, p, t)
 }
 
 /// The signal is generated for the thread; 0 is no signal.
-fn send_to_thread(node: &mut Node, t: Tid, signal: u32)
+fn send_to_thread(node: &mut KernelTables, t: Tid, signal: u32)
     requires { signal ≤ 64 }
     ensures { Stepped node.old node.new (send signal (generate_for_thread t.0)) }
 {
@@ -96,7 +96,7 @@ fn send_to_thread(node: &mut Node, t: Tid, signal: u32)
 }
 
 /// A tgkill whose arguments are right: the process is there and has the thread, or the caller is refused.
-fn kills_thread(node: &mut Node, t: Tid, p: Pid, tid: Tid, signal: u32)
+fn kills_thread(node: &mut KernelTables, t: Tid, p: Pid, tid: Tid, signal: u32)
     requires { signal ≤ 64 }
     ensures { DidAlone node.old node.new (kills_thread t.0 p.0 tid.0 signal) }
 {
@@ -109,7 +109,7 @@ fn kills_thread(node: &mut Node, t: Tid, p: Pid, tid: Tid, signal: u32)
 }
 
 /// tgkill: the signal is generated for a thread of a process; 0 only asks whether there is one.
-pub fn tgkill(node: &mut Node, t: Tid, pid: i32, tid: i32, signal: i32)
+pub fn tgkill(node: &mut KernelTables, t: Tid, pid: i32, tid: i32, signal: i32)
     ensures { DidAlone node.old node.new (tgkill t.0 pid tid signal) }
 {
     match positive(pid) {

@@ -6,7 +6,7 @@ ghost use Rattle.kernel_model.specs.Nodes.{thread_of};
 ghost use Rattle.kernel_model.specs.Plans as plans;
 ghost use Rattle.kernel_model.specs.Steps.{one_trap, one_trapped, one_view};
 ghost use Rattle.kernel_model.specs.Traps.{arguments_of as arguments_in, past_ecall, planned, trap_of_stop};
-ghost use Rattle.lwk_node.specs.Shown.{node_of};
+ghost use Rattle.kernel_tables.specs.Shown.{node_of};
 ghost use Rattle.one_calls.specs.Here.{Rest, here};
 ghost use Rattle.one_calls.specs.LocalTraps.{calls_fork, names_fork, names_local, stops_locally, traps_locally};
 ghost use Rattle.one_calls.specs.Resting.{MayClone, MayRest};
@@ -18,7 +18,7 @@ use crate::raising::raises;
 use call_plan::{Plan, plan};
 use isa_model::Stop;
 use kernel_model::Does;
-use lwk_node::Node;
+use kernel_tables::KernelTables;
 use mck_word::{Regs, Tid};
 use one_memory::PageRows;
 
@@ -30,7 +30,7 @@ pub fn names_fork(regs: &Regs) -> bool
 }
 
 /// Whether the trap of the thread is a fork.
-pub fn calls_fork(node: &Node, t: Tid) -> bool
+pub fn calls_fork(node: &KernelTables, t: Tid) -> bool
     ensures { (files : Files) → result ≡ calls_fork (node_of node.now files) t.0 }
 {
     match node.does(t) {
@@ -51,7 +51,7 @@ fn names_local(regs: &Regs) -> bool
 }
 
 /// Whether the trap of the thread is local, and no fork.
-pub fn traps_locally(node: &Node, t: Tid) -> bool
+pub fn traps_locally(node: &KernelTables, t: Tid) -> bool
     ensures { (files : Files) → result ≡ traps_locally (node_of node.now files) t.0 }
 {
     match node.does(t) {
@@ -62,7 +62,7 @@ pub fn traps_locally(node: &Node, t: Tid) -> bool
 }
 
 /// The call that the registers of the thread name, where it isn't known, or is local and no fork.
-fn call(node: &mut Node, memory: &mut PageRows, t: Tid, regs: &Regs)
+fn call(node: &mut KernelTables, memory: &mut PageRows, t: Tid, regs: &Regs)
     requires local { names_local regs.now ≡ true }
     requires rest { reg regs.now 17 ≡ 98 → MayRest node.old t.0 }
     requires clone { reg regs.now 17 ≡ 220 → MayClone node.old t.0 }
@@ -79,7 +79,7 @@ fn call(node: &mut Node, memory: &mut PageRows, t: Tid, regs: &Regs)
 }
 
 /// The local trap of a thread that stopped so.
-fn trap_of_stop(node: &mut Node, memory: &mut PageRows, t: Tid, stop: Stop)
+fn trap_of_stop(node: &mut KernelTables, memory: &mut PageRows, t: Tid, stop: Stop)
     requires local { (files : Files) → stops_locally (thread_of (node_of node.old files) t.0).regs (Some stop) ≡ true }
     requires rest { (files : Files) → reg (thread_of (node_of node.old files) t.0).regs 17 ≡ 98 → MayRest node.old t.0 }
     requires clone { (files : Files) → reg (thread_of (node_of node.old files) t.0).regs 17 ≡ 220 → MayClone node.old t.0 }
@@ -96,7 +96,7 @@ fn trap_of_stop(node: &mut Node, memory: &mut PageRows, t: Tid, stop: Stop)
 }
 
 /// The trap of a thread, where it is local and no fork.
-pub fn trap(node: &mut Node, memory: &mut PageRows, t: Tid)
+pub fn trap(node: &mut KernelTables, memory: &mut PageRows, t: Tid)
     requires local { (files : Files) → traps_locally (node_of node.old files) t.0 ≡ true }
     requires rest { (files : Files) → reg (thread_of (node_of node.old files) t.0).regs 17 ≡ 98 → MayRest node.old t.0 }
     requires clone { (files : Files) → reg (thread_of (node_of node.old files) t.0).regs 17 ≡ 220 → MayClone node.old t.0 }

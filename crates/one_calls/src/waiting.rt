@@ -7,7 +7,7 @@ ghost use Rattle.std.specs.Prelude.{◌≡◌};
 use crate::answering::{ECHILD, EFAULT, EINVAL, ENOSYS, has_bit, minus};
 use crate::numbers::store_number;
 use kernel_model::{Does, Life};
-use lwk_node::Node;
+use kernel_tables::KernelTables;
 use mck_word::{End, Pid, Tid};
 use one_memory::PageRows;
 
@@ -37,7 +37,7 @@ fn status_of_life(life: Life) -> u32
 }
 
 /// The end of the child is told at the address, which may be 0, and noted as waited for.
-fn tells_end(node: &mut Node, memory: &mut PageRows, t: Tid, child: Pid, status: u64)
+fn tells_end(node: &mut KernelTables, memory: &mut PageRows, t: Tid, child: Pid, status: u64)
     ensures { Did node.old memory.old.map node.new memory.new.map (tells_end t.0 child.0 status) }
 {
     let word = status_of_life(node.life(child));
@@ -50,7 +50,7 @@ fn tells_end(node: &mut Node, memory: &mut PageRows, t: Tid, child: Pid, status:
 }
 
 /// The wait of the thread is over: the lowest selected child that is Ended is told, or the call is refused.
-fn wait_over(node: &mut Node, memory: &mut PageRows, t: Tid, pid: i32, status: u64)
+fn wait_over(node: &mut KernelTables, memory: &mut PageRows, t: Tid, pid: i32, status: u64)
     ensures { Did node.old memory.old.map node.new memory.new.map (wait_over t.0 pid status) }
 {
     let p = node.process_of_thread(t);
@@ -61,7 +61,7 @@ fn wait_over(node: &mut Node, memory: &mut PageRows, t: Tid, pid: i32, status: u
 }
 
 /// The thread waits for a child, or answers 0 at once.
-fn begins_wait(node: &mut Node, t: Tid, pid: i32, status: u64, options: u32)
+fn begins_wait(node: &mut KernelTables, t: Tid, pid: i32, status: u64, options: u32)
     ensures { DidAlone node.old node.new (begins_wait t.0 pid status options) }
 {
     if has_bit(NO_HANG, options as u64) {
@@ -73,7 +73,7 @@ fn begins_wait(node: &mut Node, t: Tid, pid: i32, status: u64, options: u32)
 
 /// wait4: the end of a selected child is told, or the thread waits for it. What was used isn't told.
 pub fn wait4(
-    node: &mut Node,
+    node: &mut KernelTables,
     memory: &mut PageRows,
     t: Tid,
     pid: i32,
@@ -97,7 +97,7 @@ pub fn wait4(
 
 /// The wait that the thread is in is over, where it is in one.
 #[tactic(auto, unfolding(kernel_model::specs::Traps::waited))]
-pub fn waited(node: &mut Node, memory: &mut PageRows, t: Tid)
+pub fn waited(node: &mut KernelTables, memory: &mut PageRows, t: Tid)
     ensures { Did node.old memory.old.map node.new memory.new.map (waited t.0) }
 {
     if let Does::InWait { pid, status } = node.does(t) {

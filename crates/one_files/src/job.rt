@@ -7,7 +7,7 @@ ghost use Rattle.one_files.specs.Short.{AreShort};
 use crate::RowFiles;
 use crate::file_bytes::FileBytes;
 use crate::names::child_in;
-use crate::node::Node;
+use crate::node::FileNode;
 use file_calls::names::next_name;
 use mck_word::NoMemory;
 
@@ -41,14 +41,14 @@ impl RowFiles {
             return;
         };
         if next_name(more).is_none() {
-            self.nodes.add(Node::with_bytes(here, name, bytes));
+            self.nodes.add(FileNode::with_bytes(here, name, bytes));
             return;
         }
         match child_in(self.nodes.as_slice(), here, name) {
             Some(next) => self.add_file(next, more, bytes),
             None => {
                 let next = self.nodes.next();
-                self.nodes.add(Node::new(self.alloc, here, name, true));
+                self.nodes.add(FileNode::new(self.alloc, here, name, true));
                 self.add_file(next, more, bytes);
             }
         }

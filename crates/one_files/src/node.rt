@@ -16,14 +16,14 @@ use std::marker::Model;
 
 /// A file or directory, seen as the definition's.
 #[derive(Drop)]
-pub struct Node {
+pub struct FileNode {
     parent: u64,
     name: Option<ShortName>,
     directory: bool,
     bytes: FileBytes,
 }
 
-impl Model for Node {
+impl Model for FileNode {
     ghost use Rattle.file_model.specs.Files.{Inode};
     ghost use Rattle.one_files.specs.Codes.{inode_code};
 
@@ -41,13 +41,13 @@ fn is_before(a: &[u8], b: &[u8]) -> bool
     a.cmp(b) == Ordering::Less
 }
 
-impl Node {
+impl FileNode {
     /// A node without bytes, with a name in a directory. Takes no memory.
-    pub fn new(alloc: Global, parent: u64, name: &[u8], directory: bool) -> Node
+    pub fn new(alloc: Global, parent: u64, name: &[u8], directory: bool) -> FileNode
         requires { length name.now ≤ 255 }
         ensures { result ≡ record { parent = parent; name = Some name.now; directory = directory; bytes = [] } }
     {
-        Node {
+        FileNode {
             parent,
             name: Some(ShortName::new(name)),
             directory,
@@ -56,11 +56,11 @@ impl Node {
     }
 
     /// A file with those bytes, with a name in a directory.
-    pub fn with_bytes(parent: u64, name: &[u8], bytes: FileBytes) -> Node
+    pub fn with_bytes(parent: u64, name: &[u8], bytes: FileBytes) -> FileNode
         requires { length name.now ≤ 255 }
         ensures { result ≡ record { parent = parent; name = Some name.now; directory = false; bytes = bytes } }
     {
-        Node {
+        FileNode {
             parent,
             name: Some(ShortName::new(name)),
             directory: false,
@@ -69,10 +69,10 @@ impl Node {
     }
 
     /// The root, which stands in itself. Takes no memory.
-    pub fn root(alloc: Global) -> Node
+    pub fn root(alloc: Global) -> FileNode
         ensures { result ≡ empty_directory 1 None }
     {
-        Node {
+        FileNode {
             parent: 1,
             name: None,
             directory: true,

@@ -9,7 +9,7 @@ ghost use Rattle.key_rows.specs.Keeping.{kept};
 ghost use Rattle.mck_word.specs.Lists.{spliced};
 ghost use Rattle.mck_word.specs.Maps.{at, change, count, entries, no_rows, put, total};
 
-use crate::node::Node;
+use crate::node::FileNode;
 use key_rows::{RowTest, Rows};
 use mck_word::NoMemory;
 use std::alloc::Global;
@@ -21,7 +21,7 @@ const MOST_NUMBERS: u64 = 4_294_967_296;
 /// The nodes by their numbers, seen as their map, the next number, and how many nodes can be made without memory.
 #[derive(Drop)]
 pub struct Nodes {
-    rows: Rows<Node>,
+    rows: Rows<FileNode>,
     next: u64,
 }
 
@@ -47,19 +47,19 @@ impl Nodes {
     {
         let mut rows = Rows::new(alloc);
         rows.reserve(1)?;
-        rows.put(1, Node::root(alloc));
+        rows.put(1, FileNode::root(alloc));
         Ok(Nodes { rows, next: 2 })
     }
 
     /// The node of that number.
-    pub fn get(&self, n: u64) -> Option<&Node>
+    pub fn get(&self, n: u64) -> Option<&FileNode>
         ensures { option_copied result ≡ at self.now.map n }
     {
         self.rows.get(n)
     }
 
     /// The nodes by their numbers.
-    pub fn as_slice(&self) -> &[(u64, Node)]
+    pub fn as_slice(&self) -> &[(u64, FileNode)]
         ensures rows { result.now ≡ entries self.now.map }
         ensures few { length result.now ≤ 2 ^ 32 }
     {
@@ -95,7 +95,7 @@ impl Nodes {
     }
 
     /// Adds a node under the next number.
-    pub fn add(&mut self, node: Node)
+    pub fn add(&mut self, node: FileNode)
         requires { 1 ≤ self.old.spare }
         ensures map { self.new.map ≡ put self.old.map self.old.next node }
         ensures next { self.new.next ≡ self.old.next + 1 }
@@ -138,7 +138,7 @@ impl Nodes {
     }
 
     /// Takes out the nodes that don't pass the test.
-    pub fn retain<T: RowTest<Node>>(&mut self, test: &T)
+    pub fn retain<T: RowTest<FileNode>>(&mut self, test: &T)
         ensures map { self.new.map ≡ kept (T.passes test.now) self.old.map }
         ensures next { self.new.next ≡ self.old.next }
     {

@@ -7,7 +7,7 @@ ghost use Rattle.one_files.specs.Used.{names_it, opens_to};
 
 use crate::RowFiles;
 use crate::descriptors::Descriptors;
-use crate::node::Node;
+use crate::node::FileNode;
 use crate::open_file::OpenFile;
 use crate::stream::Stream;
 use file_model::Target;
@@ -101,12 +101,12 @@ struct UsedNodes<'a> {
     descriptions: &'a Rows<OpenFile>,
 }
 
-impl RowTest<Node> for UsedNodes<'_> {
+impl RowTest<FileNode> for UsedNodes<'_> {
     ghost use Rattle.one_files.specs.Used.{is_used_node};
 
     ghost passes = { λ t. is_used_node t.descriptions.now.map };
 
-    fn is_kept(&self, n: u64, node: &Node) -> bool {
+    fn is_kept(&self, n: u64, node: &FileNode) -> bool {
         n == 1 || node.name().is_some() || is_open(self.descriptions, Target::OfNode(n))
     }
 }

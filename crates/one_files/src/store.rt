@@ -3,7 +3,7 @@ ghost use Rattle.std.specs.Prelude.{◌≡◌, ◌≤◌, ◌-◌, length, take,
 
 use crate::RowFiles;
 use crate::names::{all_bytes, child_in, kth_name, some_name};
-use crate::node::Node;
+use crate::node::FileNode;
 use crate::open_file::OpenFile;
 use crate::settle::is_open;
 use crate::stream::Stream;
@@ -84,7 +84,7 @@ impl FileStore for RowFiles {
 
     fn make(&mut self, parent: u64, name: &[u8], directory: bool) {
         self.nodes
-            .add(Node::new(self.alloc, parent, name, directory));
+            .add(FileNode::new(self.alloc, parent, name, directory));
     }
 
     fn empty(&mut self, node: u64) {

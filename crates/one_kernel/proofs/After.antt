@@ -4,7 +4,7 @@ use Rattle.kernel_model.specs.OneKernel.{OneHere, no_own, one_here, put_one_here
 use Rattle.kernel_model.specs.Steps.{after, after_here, may_here, process_of_step}
 use Rattle.kernel_model.specs.declared.steps.Step.{Step}
 use Rattle.file_model.specs.Files.{Files}
-use Rattle.lwk_node.specs.Shown.{node_of}
+use Rattle.kernel_tables.specs.Shown.{node_of}
 use Rattle.mck_word.specs.EachLaws.{at-each, each-put}
 use Rattle.mck_word.specs.declared.Regs.{Regs}
 use Rattle.mck_word.specs.MapLaws.{at-put, same_rows}

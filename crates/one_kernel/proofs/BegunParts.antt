@@ -6,7 +6,7 @@ use Rattle.kernel_model.specs.Progress.{starting}
 use Rattle.kernel_model.specs.Traps.{arguments_of}
 use Rattle.call_plan.specs.Planned.{phases_in}
 use Rattle.isa_model.specs.Registers.{reg}
-use Rattle.lwk_node.specs.Shown.{node_of}
+use Rattle.kernel_tables.specs.Shown.{node_of}
 use Rattle.mck_word.specs.Maps.{put}
 use Rattle.mck_word.specs.declared.Regs.{Regs}
 use Rattle.one_files.specs.Seen.{seen}

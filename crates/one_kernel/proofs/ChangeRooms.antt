@@ -13,7 +13,7 @@ use Rattle.kernel_model.specs.declared.Change.{Change}
 use Rattle.kernel_model.specs.declared.Does.TheVariants as does
 use Rattle.kernel_model.specs.declared.Does.TheVariants.{InVm, Stopped}
 use Rattle.kernel_model.specs.declared.Does.{Does}
-use Rattle.lwk_node.specs.Shown.{node_of}
+use Rattle.kernel_tables.specs.Shown.{node_of}
 use Rattle.mck_word.specs.EachLaws.{at-each, each-put}
 use Rattle.mck_word.specs.MapLaws.{at-put}
 use Rattle.mck_word.specs.Maps.{at, each, put}

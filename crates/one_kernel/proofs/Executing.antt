@@ -5,8 +5,8 @@ use Rattle.kernel_model.specs.OneKernel.{OneKernel}
 use Rattle.kernel_model.specs.Steps.{may, may_all}
 use Rattle.kernel_model.specs.Traps.{does_after}
 use Rattle.kernel_model.specs.declared.steps.Step.TheVariants.{Instr}
-use Rattle.lwk_node.specs.Shown.{node_of}
-use Rattle.lwk_node.specs.Steps.{ran_over}
+use Rattle.kernel_tables.specs.Shown.{node_of}
+use Rattle.kernel_tables.specs.Steps.{ran_over}
 use Rattle.one_files.specs.Seen.{seen}
 use Rattle.mck_word.specs.EachLaws.{at-each, each-put}
 use Rattle.mck_word.specs.Maps.{at, each, put}

@@ -1,7 +1,7 @@
 -- A process that begins, in the parts.
 use Rattle.file_model.specs.Files.{share}
 use Rattle.kernel_model.specs.OneKernel.{OneHere}
-use Rattle.lwk_node.specs.Shown.{node_of}
+use Rattle.kernel_tables.specs.Shown.{node_of}
 use Rattle.mck_word.specs.EachLaws.{each-none}
 use Rattle.mck_word.specs.Maps.{each, no_rows}
 use Rattle.mck_word.specs.declared.Pid.{Pid}

@@ -7,7 +7,7 @@ use Rattle.kernel_model.specs.Nodes.{Node, Process, change_in, no_process, proce
 use Rattle.kernel_model.specs.OneKernel.{OneKernel}
 use Rattle.kernel_model.specs.declared.Change.TheVariants.{Brk, Map as ChangeMap, Protect, Unmap}
 use Rattle.kernel_model.specs.declared.Change.{Change}
-use Rattle.lwk_node.specs.Shown.{node_of}
+use Rattle.kernel_tables.specs.Shown.{node_of}
 use Rattle.mck_word.specs.EachLaws.{at-each}
 use Rattle.mck_word.specs.Maps.{at, count}
 use Rattle.offer_laws.proofs.ChangeFits.{low-heap, wanted-fits}

@@ -1,7 +1,7 @@
 -- Room that is made in the row of a thread's process: the state stays, and the row found has the room.
 use Rattle.key_rows.specs.Table.{Table}
 use Rattle.kernel_model.specs.OneKernel.{put_one_here}
-use Rattle.lwk_node.specs.Shown.{node_of}
+use Rattle.kernel_tables.specs.Shown.{node_of}
 use Rattle.mck_word.specs.MapLaws.{at-put}
 use Rattle.mck_word.specs.Maps.{Map, and_then, at, each, put}
 use Rattle.one_files.specs.Seen.{seen}

@@ -1,9 +1,9 @@
 -- Room for a trap is made: room for a sleeper and a thread, and then that of its kind, over the same state.
 use Rattle.file_model.specs.Files.{Files}
 use Rattle.kernel_model.specs.Nodes.{Node as KernelNode}
-use Rattle.lwk_node.specs.Room.{KeepsRoom}
-use Rattle.lwk_node.specs.Shown.{node_of}
-use Rattle.lwk_node.specs.declared.Node.{Node}
+use Rattle.kernel_tables.specs.Room.{KeepsRoom}
+use Rattle.kernel_tables.specs.Shown.{node_of}
+use Rattle.kernel_tables.specs.declared.Node.{Node}
 use Rattle.one_calls.specs.LocalTraps.{calls_fork}
 use Rattle.one_files.specs.Seen.{seen}
 use Rattle.one_kernel.proofs.TrapKinds.{told-of}

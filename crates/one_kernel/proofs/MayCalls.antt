@@ -6,7 +6,7 @@ use Rattle.kernel_model.specs.OneKernel.{CallStatus, OneHere, no_own, one_here}
 use Rattle.kernel_model.specs.Nodes.{thread_of}
 use Rattle.kernel_model.specs.Progress.{Progress, needed_access, next_piece}
 use Rattle.kernel_model.specs.Steps.{active, blocked, call_at, has_call, holds_of, is_active, is_blocked, no_call, piece_has_right}
-use Rattle.lwk_node.specs.Shown.{node_of}
+use Rattle.kernel_tables.specs.Shown.{node_of}
 use Rattle.mck_word.specs.EachLaws.{at-each}
 use Rattle.mck_word.specs.MapLaws.{at-none}
 use Rattle.mck_word.specs.Maps.{at}

@@ -13,7 +13,7 @@ use Rattle.kernel_model.specs.LocalCalls.{sleeps_at, waiters}
 use Rattle.kernel_model.specs.OneKernel.{OneKernel}
 use Rattle.kernel_model.specs.Nodes.{Node as KernelNode, Sleeper, Thread, is_asleep, most_threads, thread_of}
 use Rattle.kernel_model.specs.Traps.{may_trap}
-use Rattle.lwk_node.specs.Shown.{node_of}
+use Rattle.kernel_tables.specs.Shown.{node_of}
 use Rattle.one_calls.specs.Resting.{MayClone, MayFork, MayRest}
 use Rattle.one_kernel.proofs.Facts.{living-has, next-small}
 use Rattle.one_kernel.proofs.Told.{bool-told, lt-told}

@@ -1,7 +1,7 @@
 -- What is summed up of the rows is what is summed up of the state that they show.
-use Rattle.lwk_node.specs.Shown.{shown_line, shown_process}
-use Rattle.lwk_node.specs.declared.process_rows.Process.{Process}
-use Rattle.lwk_node.specs.declared.script_lines.ScriptLine.{ScriptLine as LineRow}
+use Rattle.kernel_tables.specs.Shown.{shown_line, shown_process}
+use Rattle.kernel_tables.specs.declared.process_rows.Process.{Process}
+use Rattle.kernel_tables.specs.declared.script_lines.ScriptLine.{ScriptLine as LineRow}
 use Rattle.lwk_threads.proofs.Showing.{entries-each, pair_of as shown_pair}
 use Rattle.mck_word.specs.Maps.{Map, each, entries}
 use Rattle.one_kernel.specs.Summed.{end_at}

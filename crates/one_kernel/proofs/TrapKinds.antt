@@ -7,7 +7,7 @@ use Rattle.kernel_model.specs.Plans.{Delegated, Local, Plan, Unknown, Vm}
 use Rattle.kernel_model.specs.Traps.{may_trap}
 use Rattle.kernel_model.specs.declared.Does.{Does}
 use Rattle.kernel_model.specs.declared.Does.TheVariants as does
-use Rattle.lwk_node.specs.Shown.{node_of}
+use Rattle.kernel_tables.specs.Shown.{node_of}
 use Rattle.mck_word.specs.declared.Regs.{Regs}
 use Rattle.one_calls.specs.LocalTraps.{calls_fork, forks_at, is_local, names_fork, stops_locally, traps_locally}
 use Rattle.one_files.specs.Seen.{seen}

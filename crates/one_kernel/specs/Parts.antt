@@ -3,7 +3,7 @@ use Rattle.kernel_model.specs.OneKernel as kernel
 use Rattle.kernel_model.specs.OneKernel.{CallStatus, OneHere, OneKernel, one_here}
 use Rattle.kernel_model.specs.Steps.{of_thread}
 use Rattle.kernel_model.specs.Progress.{Progress}
-use Rattle.lwk_node.specs.Shown.{node_of}
+use Rattle.kernel_tables.specs.Shown.{node_of}
 use Rattle.mck_word.specs.Maps.{each}
 use Rattle.one_files.specs.Seen.{seen}
 use Rattle.one_kernel.specs.declared.calls.Call.{Call}

@@ -1,5 +1,5 @@
 -- What is summed up of the tables' rows.
-use Rattle.lwk_node.specs.declared.process_rows.Process.{Process}
+use Rattle.kernel_tables.specs.declared.process_rows.Process.{Process}
 use Rattle.mck_word.specs.Identifiers.{pid}
 use Rattle.run_summary.specs.Summaries.{end_of}
 use Rattle.run_summary.specs.declared.ProcessEnd.{ProcessEnd}

@@ -7,7 +7,7 @@ ghost use Rattle.kernel_model.specs.Plans.{Vm};
 ghost use Rattle.kernel_model.specs.Steps.{one_changed, one_effect, one_trapped, one_view};
 ghost use Rattle.kernel_model.specs.Traps.{decided, past_ecall, planned};
 ghost use Rattle.kernel_model.specs.declared.Does.TheVariants.{Stopped};
-ghost use Rattle.lwk_node.specs.Shown.{node_of};
+ghost use Rattle.kernel_tables.specs.Shown.{node_of};
 ghost use Rattle.mck_word.specs.Maps.{count};
 ghost use Rattle.offer_laws.specs.ChangeFits.{ChangeFits, DecisionFits};
 ghost use Rattle.one_calls.specs.Here.{Rest, here};
@@ -18,7 +18,7 @@ ghost use Rattle.vm_calls.specs.Facts.{decision, refusal};
 use ikc_ring::Call;
 use isa_model::Stop;
 use kernel_model::{Change, Does};
-use lwk_node::Node;
+use kernel_tables::KernelTables;
 use mck_word::{Pid, Regs, Req, Tid};
 use one_calls::{arguments_of, call_number};
 use one_changes::{decide, finish, make};
@@ -49,7 +49,7 @@ fn break_after(brk: u64, change: &Change) -> u64
 
 /// A change of the process is made: its pages go and come, the break is set, and the thread has its answer.
 fn make_change(
-    node: &mut Node,
+    node: &mut KernelTables,
     memory: &mut PageRows,
     free: &mut u64,
     p: Pid,
@@ -71,7 +71,7 @@ fn make_change(
 
 /// What a memory call of the process decides. No request belongs to it.
 fn plan_call(
-    node: &Node,
+    node: &KernelTables,
     memory: &PageRows,
     free: u64,
     p: Pid,
@@ -100,7 +100,7 @@ fn plan_call(
 
 /// The thread has its answer, its change is made, or it waits until its change may be made.
 fn does_as_planned(
-    node: &mut Node,
+    node: &mut KernelTables,
     memory: &mut PageRows,
     free: &mut u64,
     p: Pid,
@@ -123,7 +123,7 @@ fn does_as_planned(
 
 /// The memory call that the registers of the thread name is made, behind its ecall.
 fn calls_for_memory(
-    node: &mut Node,
+    node: &mut KernelTables,
     memory: &mut PageRows,
     free: &mut u64,
     p: Pid,
@@ -152,7 +152,7 @@ fn calls_for_memory(
 }
 
 /// The trap of the thread, which stopped at a memory call.
-pub fn trap_memory(node: &mut Node, memory: &mut PageRows, free: &mut u64, p: Pid, t: Tid)
+pub fn trap_memory(node: &mut KernelTables, memory: &mut PageRows, free: &mut u64, p: Pid, t: Tid)
     requires own { (files : Files) → (thread_of (node_of node.old files) t.0).process ≡ p.0 }
     requires stopped { (files : Files) → (thread_of (node_of node.old files) t.0).does ≡ Stopped Ecall }
     requires heap { (files : Files) → HeapFits (process_of (node_of node.old files) p.0) }
@@ -167,7 +167,7 @@ pub fn trap_memory(node: &mut Node, memory: &mut PageRows, free: &mut u64, p: Pi
 }
 
 /// What is decided at the end of the change, for which the thread has waited.
-fn plan_end(node: &Node, memory: &PageRows, free: u64, p: Pid, change: &Change) -> AtEnd
+fn plan_end(node: &KernelTables, memory: &PageRows, free: u64, p: Pid, change: &Change) -> AtEnd
     requires { (files : Files) → HeapFits (process_of (node_of node.now files) p.0) }
     ensures { (files : Files) → refusal result ≡ refusal_at_end (process_of (node_of node.now files) p.0) memory.now.map free change.now }
 {
@@ -176,7 +176,7 @@ fn plan_end(node: &Node, memory: &PageRows, free: u64, p: Pid, change: &Change) 
 
 /// The change of the thread is refused or made.
 pub fn finish_change(
-    node: &mut Node,
+    node: &mut KernelTables,
     memory: &mut PageRows,
     free: &mut u64,
     p: Pid,
@@ -199,7 +199,7 @@ pub fn finish_change(
 
 /// The change that the memory call of the registers makes at once.
 fn change_at_once(
-    node: &Node,
+    node: &KernelTables,
     memory: &PageRows,
     free: u64,
     p: Pid,
@@ -225,7 +225,7 @@ fn change_at_once(
 
 /// The change, where its end doesn't refuse it.
 fn change_at_end(
-    node: &Node,
+    node: &KernelTables,
     memory: &PageRows,
     free: u64,
     p: Pid,
@@ -241,7 +241,7 @@ fn change_at_end(
 }
 
 /// The change that the thread makes next, at a memory call or at the end of its wait.
-pub fn due(node: &Node, memory: &PageRows, free: u64, p: Pid, t: Tid) -> Option<Change>
+pub fn due(node: &KernelTables, memory: &PageRows, free: u64, p: Pid, t: Tid) -> Option<Change>
     requires own { (files : Files) → (thread_of (node_of node.now files) t.0).process ≡ p.0 }
     requires heap { (files : Files) → HeapFits (process_of (node_of node.now files) p.0) }
     ensures { (files : Files) → result ≡ due (node_of node.now files) t.0 memory.now.map free }

@@ -3,8 +3,8 @@ ghost use Rattle.mck_word.specs.Maps.{at};
 ghost use Rattle.std.specs.Prelude.{◌≡◌, is_some};
 
 use crate::calls::Call;
+use kernel_tables::KernelTables;
 use key_rows::Rows;
-use lwk_node::Node;
 use mck_word::Tid;
 use one_files::RowFiles;
 use one_memory::PageRows;
@@ -31,7 +31,7 @@ impl Own {
 /// decoded before, and the memory of a process that is to be made.
 #[derive(Drop)]
 pub struct One {
-    pub node: Node,
+    pub node: KernelTables,
     pub own: Rows<Own>,
     pub files: RowFiles,
     pub free: u64,

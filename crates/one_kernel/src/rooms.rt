@@ -1,5 +1,5 @@
 // Room for the steps that take memory.
-ghost use Rattle.lwk_node.specs.Room.{KeepsRoom};
+ghost use Rattle.kernel_tables.specs.Room.{KeepsRoom};
 ghost use Rattle.kernel_model.specs.Steps.{of_thread};
 ghost use Rattle.mck_word.specs.Maps.{and_then, at, count, no_rows};
 ghost use Rattle.one_files.specs.Seen.{room_of};

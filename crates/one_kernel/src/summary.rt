@@ -8,7 +8,7 @@ ghost use Rattle.std.specs.Prelude.{◌≡◌, IfOk, map};
 use crate::parts::One;
 use file_summary::{outputs, paths};
 use kernel_model::Life;
-use lwk_node::{Processes, ScriptLine};
+use kernel_tables::{Processes, ScriptLine};
 use mck_word::{End, Items, NoMemory, Pid};
 use run_summary::{Ends, Lines, ProcessEnd, Summary};
 use std::alloc::Global;

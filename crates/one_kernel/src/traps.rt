@@ -1,13 +1,13 @@
 // Which traps begin delegated calls, and which are memory calls.
 ghost use Rattle.file_model.specs.Files.{Files};
-ghost use Rattle.lwk_node.specs.Shown.{node_of};
+ghost use Rattle.kernel_tables.specs.Shown.{node_of};
 ghost use Rattle.one_kernel.specs.Trapping.{begins_call, calls_memory, is_delegated, is_on_memory, plan_of};
 ghost use Rattle.std.specs.Prelude.{◌≡◌};
 
 use call_plan::{Plan, plan};
 use isa_model::Stop;
 use kernel_model::Does;
-use lwk_node::Node;
+use kernel_tables::KernelTables;
 use mck_word::{Regs, Tid};
 use one_calls::{arguments_of, call_number};
 
@@ -29,7 +29,7 @@ fn names_memory(regs: &Regs) -> bool
 }
 
 /// Whether the trap of the thread begins a delegated call.
-pub(crate) fn begins_call(node: &Node, t: Tid) -> bool
+pub(crate) fn begins_call(node: &KernelTables, t: Tid) -> bool
     ensures { (files : Files) → result ≡ begins_call (node_of node.now files) t.0 }
 {
     match node.does(t) {
@@ -39,7 +39,7 @@ pub(crate) fn begins_call(node: &Node, t: Tid) -> bool
 }
 
 /// Whether the trap of the thread is a memory call.
-pub(crate) fn calls_memory(node: &Node, t: Tid) -> bool
+pub(crate) fn calls_memory(node: &KernelTables, t: Tid) -> bool
     ensures { (files : Files) → result ≡ calls_memory (node_of node.now files) t.0 }
 {
     match node.does(t) {

@@ -9,7 +9,7 @@ use Rattle.hybrid_model.specs.declared.events.Event.{Event}
 use Rattle.hybrid_model.specs.declared.events.Event.TheVariants.{Trap}
 use Rattle.kernel_model.specs.Nodes.{has_process, is_ended, is_there, thread_of}
 use Rattle.kernel_model.specs.Traps.{may_trap}
-use Rattle.lwk_node.specs.Shown.{node_of}
+use Rattle.kernel_tables.specs.Shown.{node_of}
 use Rattle.lwk_side.specs.Cloning.{calls_fork}
 use Rattle.lwk_side.specs.Forked.{MayFork}
 use Rattle.mck_word.specs.EachLaws.{at-each, each-put}

@@ -1,7 +1,7 @@
 -- A trap that begins a call makes the ring of its thread longer.
 use Rattle.file_model.specs.Files.{Files}
-use Rattle.lwk_node.specs.Shown.{node_of}
-use Rattle.lwk_node.specs.declared.tables.Node.{Node}
+use Rattle.kernel_tables.specs.Shown.{node_of}
+use Rattle.kernel_tables.specs.declared.tables.KernelTables.{KernelTables}
 use Rattle.hybrid_laws.proofs.maps.Tests.{both}
 use Rattle.hybrid_model.specs.OneProcess.{view_here}
 use Rattle.hybrid_model.specs.Trap.{after_trap, begin_call, trapped}
@@ -59,12 +59,12 @@ begun-posts p t h none e below =
     record { longer = omega (arith, longer); unborn = born }
 
 -- whether a call begins has nothing to do with the files
-pub begins-any : (n : Node) (t : ℕ) (files other : Files) → begins_call (node_of n files) t ≡ true → begins_call (node_of n other) t ≡ true
+pub begins-any : (n : KernelTables) (t : ℕ) (files other : Files) → begins_call (node_of n files) t ≡ true → begins_call (node_of n other) t ≡ true
 unfolding node_of
 begins-any n t files other e = e
 
 -- a thread that may trap is stopped, whatever the files are
-pub stopped-any : (n : Node) (t : ℕ) (files other : Files) → may_trap (node_of n files) t ≡ true → is_stopped (thread_of (node_of n other) t).does ≡ true
+pub stopped-any : (n : KernelTables) (t : ℕ) (files other : Files) → may_trap (node_of n files) t ≡ true → is_stopped (thread_of (node_of n other) t).does ≡ true
 unfolding node_of
 stopped-any n t files other e =
     let x = thread_of (node_of n files) t in

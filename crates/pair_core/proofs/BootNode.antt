@@ -6,8 +6,8 @@ use Rattle.job_model.specs.declared.job.Job.{Job}
 use Rattle.kernel_model.specs.Layout.{guest_regs}
 use Rattle.kernel_model.specs.Nodes.{Node, Process, Thread, no_thread, threads_of}
 use Rattle.kernel_model.specs.OneKernel.{Guest, first_free_number, guest_process}
-use Rattle.lwk_node.specs.Shown.{node_of}
-use Rattle.lwk_node.specs.declared.tables.Node.{Node as Tables}
+use Rattle.kernel_tables.specs.Shown.{node_of}
+use Rattle.kernel_tables.specs.declared.tables.KernelTables.{KernelTables as Tables}
 use Rattle.mck_word.specs.MapLaws.{at-none, at-put}
 use Rattle.mck_word.specs.Maps.{Map, at, entries, put}
 use Rattle.mck_word.specs.declared.Regs.{Regs}

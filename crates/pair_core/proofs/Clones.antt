@@ -4,7 +4,7 @@ use Rattle.hybrid_laws.proofs.maps.Tests.{both}
 use Rattle.hybrid_model.specs.Sides.{Row}
 use Rattle.kernel_model.specs.Nodes.{has_thread, is_living, is_stopped, thread_of}
 use Rattle.kernel_model.specs.Traps.{may_trap}
-use Rattle.lwk_node.specs.Shown.{node_of}
+use Rattle.kernel_tables.specs.Shown.{node_of}
 use Rattle.lwk_side.specs.Cloning.{MayClone}
 use Rattle.mck_word.specs.Maps.{Map}
 use Rattle.pair_core.specs.Ready.{IsSound}

@@ -8,7 +8,7 @@ use Rattle.hybrid_model.specs.Globals.{Places, ring_number}
 use Rattle.hybrid_model.specs.Pairs.{Here}
 use Rattle.hybrid_model.specs.Sides.{Row}
 use Rattle.hybrid_model.specs.declared.events.Event.{Event}
-use Rattle.lwk_node.specs.Shown.{node_of}
+use Rattle.kernel_tables.specs.Shown.{node_of}
 use Rattle.mck_word.specs.MapLaws.{at-put}
 use Rattle.mck_word.specs.Maps.{Map, at, put}
 use Rattle.pair_core.proofs.FewCalls.{few-calls}

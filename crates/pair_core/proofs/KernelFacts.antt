@@ -12,7 +12,7 @@ use Rattle.hybrid_model.specs.declared.events.Event.{Event}
 use Rattle.ikc_ring.specs.declared.Msg.{Msg}
 use Rattle.kernel_model.specs.Nodes.{has_thread, thread_of}
 use Rattle.kernel_model.specs.Traps.{line_of, may_run}
-use Rattle.lwk_node.specs.declared.tables.Node.{Node}
+use Rattle.kernel_tables.specs.declared.tables.KernelTables.{KernelTables}
 use Rattle.lwk_side.specs.Sound.{IsSound as IsSoundTable}
 use Rattle.lwk_side.specs.Wired.{Wired}
 use Rattle.mck_word.specs.EachLaws.{at-each}
@@ -21,7 +21,7 @@ use Rattle.mck_word.specs.MapLaws.{at-put}
 use Rattle.mck_word.specs.Maps.{Map, at, put}
 use Rattle.pair_core.proofs.Found.{here-is}
 use Rattle.offer_laws.proofs.Sizes.{frame-count-stays}
-use Rattle.lwk_node.specs.Shown.{node_of}
+use Rattle.kernel_tables.specs.Shown.{node_of}
 use Rattle.pair_core.specs.Kept.{Kept, Takes}
 use Rattle.pair_core.specs.Ready.{IsSound}
 use Rattle.pair_core.specs.Shown.{here_in, pair_of, shown_side}
@@ -66,7 +66,7 @@ may-run-is core t n h e =
     record { lives = k.0; some = grind (arith, nat_tests, c.1); within = grind (arith, nat_tests, a.1) }
 
 -- whether a thread lives, and of which process it is, has nothing to do with the files
-pub lives-any : (n : Node) (t : ℕ) (files other : Files) → has_thread (node_of n files) t ≡ true → has_thread (node_of n other) t ≡ true
+pub lives-any : (n : KernelTables) (t : ℕ) (files other : Files) → has_thread (node_of n files) t ≡ true → has_thread (node_of n other) t ≡ true
 unfolding node_of
 lives-any n t files other e = e
 

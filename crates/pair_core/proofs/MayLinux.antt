@@ -8,7 +8,7 @@ use Rattle.hybrid_model.specs.Pairs.{here}
 use Rattle.hybrid_model.specs.Sides.{Row}
 use Rattle.hybrid_model.specs.declared.events.Event.{Event}
 use Rattle.kernel_model.specs.Nodes.{Node, is_there}
-use Rattle.lwk_node.specs.Shown.{node_of}
+use Rattle.kernel_tables.specs.Shown.{node_of}
 use Rattle.mck_word.specs.Maps.{Map, at}
 use Rattle.pair_core.proofs.Found.{found, here-is}
 use Rattle.pair_core.specs.LinuxRoom.{linux_process}

@@ -13,7 +13,7 @@ use Rattle.hybrid_model.specs.Tallies.{tally}
 use Rattle.ikc_ring.specs.declared.Msg.TheVariants.{Ack, Answer, Clear, Fault, Interrupt, Reply, Request}
 use Rattle.ikc_ring.specs.declared.Msg.{Msg}
 use Rattle.kernel_model.specs.Nodes.{Node, Process, no_process, process_of}
-use Rattle.lwk_node.specs.Shown.{node_of}
+use Rattle.kernel_tables.specs.Shown.{node_of}
 use Rattle.lwk_side.specs.Acks.{IfAck}
 use Rattle.lwk_side.specs.Changing.{HeapFits}
 use Rattle.mck_word.specs.Maps.{Map, at}

@@ -18,8 +18,8 @@ use Rattle.kernel_model.specs.Nodes.{change_in, has_thread, is_living, process_o
 use Rattle.kernel_model.specs.declared.Change.{Change}
 use Rattle.kernel_model.specs.declared.Does.{Does}
 use Rattle.kernel_model.specs.declared.Does.TheVariants.{Asleep, Called, InVm, InWait, Ready, Stopped}
-use Rattle.lwk_node.specs.Shown.{node_of}
-use Rattle.lwk_node.specs.declared.tables.Node.{Node}
+use Rattle.kernel_tables.specs.Shown.{node_of}
+use Rattle.kernel_tables.specs.declared.tables.KernelTables.{KernelTables}
 use Rattle.lwk_side.specs.Shown.{shown_caller}
 use Rattle.lwk_side.specs.Wired.{HasPlace, Wired}
 use Rattle.lwk_side.specs.declared.kernel.Lwk.{Lwk}
@@ -79,7 +79,7 @@ may-answer-is w h e =
     record { worker = grind (arith, nat_tests, a.0); noted = noted-some h.side.round (at h.side.lwk.noted w) a.1 }
 
 -- the node with other files
-pub node-files : (n : Node) (f g : Files) → node_of n g ≡ set_files g (node_of n f)
+pub node-files : (n : KernelTables) (f g : Files) → node_of n g ≡ set_files g (node_of n f)
 unfolding node_of
 node-files n f g = refl
 

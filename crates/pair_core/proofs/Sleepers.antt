@@ -13,8 +13,8 @@ use Rattle.hybrid_model.specs.Tallies.{Each, if_same, tally}
 use Rattle.kernel_model.specs.LocalCalls.{sleeps_at, waiters}
 use Rattle.kernel_model.specs.Nodes.{Node as KernelNode, Sleeper, Thread, is_asleep, most_threads, thread_of}
 use Rattle.kernel_model.specs.Traps.{may_trap}
-use Rattle.lwk_node.specs.Shown.{node_of}
-use Rattle.lwk_node.specs.declared.tables.Node.{Node}
+use Rattle.kernel_tables.specs.Shown.{node_of}
+use Rattle.kernel_tables.specs.declared.tables.KernelTables.{KernelTables}
 use Rattle.lwk_side.specs.Resting.{MayRest}
 use Rattle.mck_word.specs.Maps.{at}
 use Rattle.std.proofs.Common.{ap, arith, inl, inr, refl, subst, sym, ◌∙◌}
@@ -130,7 +130,7 @@ module _ (node : KernelNode) (sleeping : Sleeping node) (places : Places node) (
   sleeps-nowhere = none-of t node.sleepers (is-awake node t x there awake sleeping)
 
 -- the thread of a trap may fall asleep, whatever the files are
-pub may-rest : (n : Node) (files : Files) (t : ℕ) → Sleeping (node_of n files) → Places (node_of n files) → may_trap (node_of n files) t ≡ true → 1 ≤ n.sleepers.spare → MayRest n t
+pub may-rest : (n : KernelTables) (files : Files) (t : ℕ) → Sleeping (node_of n files) → Places (node_of n files) → may_trap (node_of n files) t ≡ true → 1 ≤ n.sleepers.spare → MayRest n t
 unfolding node_of
 may-rest n files t sleeping places may room =
     let node = node_of n files in

@@ -9,10 +9,10 @@ use Rattle.ikc_ring.specs.declared.Msg.TheVariants.{Ack}
 use Rattle.ikc_ring.specs.declared.Msg.{Msg}
 use Rattle.kernel_model.specs.Nodes.{Node, change_in, process_of, thread_of}
 use Rattle.kernel_model.specs.Traps.{trap}
-use Rattle.lwk_node.specs.Shown.{node_of}
+use Rattle.kernel_tables.specs.Shown.{node_of}
 use Rattle.lwk_side.specs.Acks.{IfAck}
 use Rattle.lwk_side.specs.Changing.{HasAckRoom, HasTrappedRoom, changing_in}
-use Rattle.lwk_tables.specs.Lacks.{memory}
+use Rattle.lwk_space.specs.Lacks.{memory}
 use Rattle.lwk_views.specs.Views.{seen}
 use Rattle.mck_word.specs.Maps.{Map, at}
 use Rattle.mck_word.specs.declared.PageRange.{PageRange}

@@ -4,10 +4,10 @@ use Rattle.file_model.specs.Files.{Files}
 use Rattle.hybrid_model.specs.Events.{of_thread}
 use Rattle.hybrid_model.specs.Sides.{Row, new_side}
 use Rattle.hybrid_model.specs.declared.events.Event.TheVariants.{Trap}
-use Rattle.lwk_node.specs.Shown.{node_of}
+use Rattle.kernel_tables.specs.Shown.{node_of}
 use Rattle.lwk_side.specs.Cloning.{calls_fork}
-use Rattle.lwk_tables.specs.Copies.{HasCopyRoom}
-use Rattle.lwk_tables.specs.Spaced.{Spaced}
+use Rattle.lwk_space.specs.Copies.{HasCopyRoom}
+use Rattle.lwk_space.specs.Spaced.{Spaced}
 use Rattle.mck_word.specs.Maps.{Map, at}
 use Rattle.mck_word.specs.declared.PageRange.{PageRange}
 use Rattle.mck_word.specs.declared.Tid.{Tid}

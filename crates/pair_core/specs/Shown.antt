@@ -2,9 +2,9 @@
 use Rattle.file_model.specs.Files.{Files}
 use Rattle.hybrid_model.specs.Pairs.{Here, Pair}
 use Rattle.hybrid_model.specs.Sides.{Row, Side as SideOf}
-use Rattle.lwk_node.specs.Shown.{node_of}
+use Rattle.kernel_tables.specs.Shown.{node_of}
 use Rattle.lwk_side.specs.Shown.{Rest, here_of, side_of}
-use Rattle.lwk_tables.specs.Frames.{frames_map}
+use Rattle.lwk_space.specs.Frames.{frames_map}
 use Rattle.mck_word.specs.Maps.{Map, each}
 use Rattle.pair_core.specs.declared.parts.Parts.{Parts}
 use Rattle.pair_core.specs.declared.parts.Side.{Side}

@@ -6,7 +6,7 @@ ghost use Rattle.hybrid_model.specs.Sides.{no_lwk};
 ghost use Rattle.job_model.specs.Images.{IsImage};
 ghost use Rattle.job_model.specs.Prepared.{HasArguments};
 ghost use Rattle.kernel_model.specs.OneKernel as kernel;
-ghost use Rattle.lwk_node.specs.Shown.{node_of, shown_process};
+ghost use Rattle.kernel_tables.specs.Shown.{node_of, shown_process};
 ghost use Rattle.pair_core.specs.Booting.{IsBefore, guest_at, node_with};
 ghost use Rattle.pair_core.specs.Kept.{Takes};
 ghost use Rattle.pair_core.specs.Shown.{shown_side};
@@ -16,12 +16,12 @@ use hybrid_model::ring_capacity;
 use ikc_channel::Channel;
 use job_model::{GuestLine, Image};
 use kernel_model::Life;
+use kernel_tables::{KernelTables, Process};
 use key_rows::Rows;
 use lwk_boot::{guest_regs, heap_base};
-use lwk_node::{Node, Process};
 use lwk_side::{Noted, Task};
 use lwk_signals::Actions;
-use lwk_tables::Space;
+use lwk_space::Space;
 use mck_flags::SigSet;
 use mck_word::{NoMemory, Pid, Tid};
 use page_map::PageTable;
@@ -49,7 +49,7 @@ fn guest_process(image: &Image) -> Process
 }
 
 /// Makes room for the process of a guest and its thread. The node stays, also where memory lacks.
-pub fn reserve_guest(node: &mut Node) -> Result<(), NoMemory>
+pub fn reserve_guest(node: &mut KernelTables) -> Result<(), NoMemory>
     ensures node { (files : Files) → node_of node.new files ≡ node_of node.old files }
     ensures process { OnOk result (1 ≤ node.new.processes.spare) }
     ensures thread { OnOk result (1 ≤ node.new.threads.spare) }
@@ -59,7 +59,7 @@ pub fn reserve_guest(node: &mut Node) -> Result<(), NoMemory>
 }
 
 /// Puts the process of a guest in, and its thread, which has the same number.
-pub fn put_guest(node: &mut Node, number: u32, line: &GuestLine, image: &Image)
+pub fn put_guest(node: &mut KernelTables, number: u32, line: &GuestLine, image: &Image)
     requires process_room { 1 ≤ node.old.processes.spare }
     requires thread_room { 1 ≤ node.old.threads.spare }
     requires most { number ≤ 16 }

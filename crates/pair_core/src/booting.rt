@@ -5,8 +5,8 @@ ghost use Rattle.job_model.specs.Images.{IsImage};
 ghost use Rattle.job_model.specs.Prepared.{HasArguments, IsPrepared};
 ghost use Rattle.kernel_model.specs.Layout.{needed_frames as needed_by};
 ghost use Rattle.kernel_model.specs.OneKernel.{boot_files as files_of_job, guests_from};
-ghost use Rattle.lwk_node.specs.Shown.{node_of};
-ghost use Rattle.lwk_tables.specs.Frames.{frames_map};
+ghost use Rattle.kernel_tables.specs.Shown.{node_of};
+ghost use Rattle.lwk_space.specs.Frames.{frames_map};
 ghost use Rattle.mck_word.specs.Maps.{no_rows};
 ghost use Rattle.pair_core.specs.Booting.{BootLacks, IsBefore, guest_at, no_guests, pair_with};
 ghost use Rattle.pair_core.specs.Kept.{Kept};
@@ -21,9 +21,9 @@ use frame_mem::FrameMem;
 use frame_pool::FramePool;
 use job_files::JobFiles;
 use job_model::{GuestLine, Image, Job};
+use kernel_tables::KernelTables;
 use key_rows::Rows;
 use lwk_boot::{load_guest, needed_frames};
-use lwk_node::Node;
 use lwk_side::{Last, Lwk};
 use mck_word::NoMemory;
 use page_map::PageTable;
@@ -32,11 +32,11 @@ use rv64i_user::KnownWords;
 use std::alloc::Global;
 
 /// The tables before the first guest, with the script.
-fn boot_node(alloc: Global, job: &Job, images: &[Image]) -> Result<Node, NoMemory>
+fn boot_node(alloc: Global, job: &Job, images: &[Image]) -> Result<KernelTables, NoMemory>
     requires { IsPrepared job.now images.now }
     ensures { IfOk result (λ node. node_of node (files_of_job job.now) ≡ (no_guests job.now).node) }
 {
-    let mut node = Node::new(alloc, job.frames, job.limit);
+    let mut node = KernelTables::new(alloc, job.frames, job.limit);
     node.unsent = boot_script(alloc, job)?;
     Ok(node)
 }

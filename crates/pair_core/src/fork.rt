@@ -2,7 +2,7 @@
 ghost use Rattle.file_model.specs.Files.{Files};
 ghost use Rattle.hybrid_model.specs.Events.{after, of_thread};
 ghost use Rattle.hybrid_model.specs.declared.events.Event.TheVariants.{Trap};
-ghost use Rattle.lwk_node.specs.Shown.{node_of};
+ghost use Rattle.kernel_tables.specs.Shown.{node_of};
 ghost use Rattle.lwk_side.specs.Cloning.{calls_fork};
 ghost use Rattle.pair_core.specs.Kept.{Kept};
 ghost use Rattle.pair_core.specs.Newborn.{HasForkRoom};

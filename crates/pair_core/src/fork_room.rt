@@ -1,7 +1,7 @@
 // Room for forks.
 ghost use Rattle.file_model.specs.Files.{Files};
 ghost use Rattle.hybrid_model.specs.Events.{of_thread};
-ghost use Rattle.lwk_node.specs.Shown.{node_of};
+ghost use Rattle.kernel_tables.specs.Shown.{node_of};
 ghost use Rattle.mck_word.specs.Maps.{at};
 ghost use Rattle.pair_core.specs.Kept.{Kept};
 ghost use Rattle.pair_core.specs.Newborn.{HasForkRoom, HasNewborn, IsNewborn};
@@ -12,7 +12,7 @@ ghost use Rattle.std.specs.Prelude.{◌≡◌, ◌≤◌, IfOk, OnOk, Some, ℕ}
 use crate::boot_guests::guest_side;
 use crate::parts::{Parts, Side};
 use file_calls::store::FileStore;
-use lwk_tables::Space;
+use lwk_space::Space;
 use mck_word::{NoMemory, Pid, Tid};
 use page_map::PageTable;
 use std::alloc::Global;

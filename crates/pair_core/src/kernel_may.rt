@@ -5,7 +5,7 @@ ghost use Rattle.hybrid_model.specs.Events.{may, may_here};
 ghost use Rattle.hybrid_model.specs.Globals.{Coherent};
 ghost use Rattle.hybrid_model.specs.Reap.{may_reap};
 ghost use Rattle.hybrid_model.specs.Run.{may_run_for};
-ghost use Rattle.lwk_node.specs.Shown.{node_of};
+ghost use Rattle.kernel_tables.specs.Shown.{node_of};
 ghost use Rattle.pair_core.specs.KernelRoom.{kernel_process};
 ghost use Rattle.pair_core.specs.Shown.{here_in, pair_of};
 ghost use Rattle.std.specs.Prelude.{◌&&◌, ◌≡◌, ◌≤◌, not, option_map};

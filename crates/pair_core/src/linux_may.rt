@@ -42,7 +42,7 @@ fn process_of(event: Event) -> Option<Pid>
     }
 }
 
-#[tactic(auto, unfolding(lwk_node::specs::Shown::node_of))]
+#[tactic(auto, unfolding(kernel_tables::specs::Shown::node_of))]
 impl<T: PageTable + Drop, F: FileStore> Parts<T, F> {
     /// Whether the event is of the Linux side and may happen in the process.
     fn may_on(&self, side: &Side<T>, event: Event) -> bool

@@ -3,7 +3,7 @@ ghost use Rattle.file_model.specs.Files.{Files};
 ghost use Rattle.hybrid_model.specs.Events.{after, of_line};
 ghost use Rattle.hybrid_model.specs.declared.events.Event.TheVariants.{Script};
 ghost use Rattle.kernel_model.specs.Traps.{line_of};
-ghost use Rattle.lwk_node.specs.Shown.{node_of};
+ghost use Rattle.kernel_tables.specs.Shown.{node_of};
 ghost use Rattle.pair_core.specs.Kept.{Kept};
 ghost use Rattle.pair_core.specs.Ready.{Ready};
 ghost use Rattle.pair_core.specs.Shown.{pair_of};

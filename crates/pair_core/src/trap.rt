@@ -3,7 +3,7 @@ ghost use Rattle.file_model.specs.Files.{Files};
 ghost use Rattle.hybrid_model.specs.Events.{after};
 ghost use Rattle.hybrid_model.specs.declared.events.Event.TheVariants.{Trap};
 ghost use Rattle.kernel_model.specs.Nodes.{thread_of};
-ghost use Rattle.lwk_node.specs.Shown.{node_of};
+ghost use Rattle.kernel_tables.specs.Shown.{node_of};
 ghost use Rattle.lwk_side.specs.Cloning.{calls_fork};
 ghost use Rattle.mck_word.specs.Maps.{at};
 ghost use Rattle.pair_core.specs.Kept.{Kept};

@@ -7,10 +7,10 @@ use Rattle.hybrid_model.specs.Journals.{runs_on}
 use Rattle.kernel_model.specs.Nodes.{Process, ScriptLine, has_ended, has_process, is_living, ready_to_run}
 use Rattle.kernel_model.specs.declared.Does.{Does}
 use Rattle.key_rows.specs.Table.{key_from}
-use Rattle.lwk_node.proofs.Rows.{shown_thread}
-use Rattle.lwk_node.specs.Shown.{node_of, shown_line, shown_process}
-use Rattle.lwk_node.specs.declared.process_rows.Process.{Process as ProcessRow}
-use Rattle.lwk_node.specs.declared.script_lines.ScriptLine.{ScriptLine as LineRow}
+use Rattle.kernel_tables.proofs.Rows.{shown_thread}
+use Rattle.kernel_tables.specs.Shown.{node_of, shown_line, shown_process}
+use Rattle.kernel_tables.specs.declared.process_rows.Process.{Process as ProcessRow}
+use Rattle.kernel_tables.specs.declared.script_lines.ScriptLine.{ScriptLine as LineRow}
 use Rattle.lwk_threads.proofs.Keys.{key_from-stands}
 use Rattle.lwk_threads.proofs.Showing.{entries-each, pair_of as shown_pair}
 use Rattle.lwk_threads.specs.declared.Thread.{Thread as ThreadRow}

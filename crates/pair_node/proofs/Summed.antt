@@ -5,8 +5,8 @@ use Rattle.hybrid_model.specs.Globals.{Coherent}
 use Rattle.hybrid_model.specs.Pairs.{Pair}
 use Rattle.hybrid_model.specs.Sides.{Row, Side as SideOf}
 use Rattle.kernel_model.specs.Nodes.{Node, Process, no_process, process_of}
-use Rattle.lwk_node.specs.Shown.{shown_line}
-use Rattle.lwk_node.specs.declared.script_lines.ScriptLine.{ScriptLine as LineRow}
+use Rattle.kernel_tables.specs.Shown.{shown_line}
+use Rattle.kernel_tables.specs.declared.script_lines.ScriptLine.{ScriptLine as LineRow}
 use Rattle.lwk_threads.proofs.Showing.{entries-each, pair_of as shown_pair}
 use Rattle.mck_word.specs.Maps.{Map, entries, keys}
 use Rattle.mck_word.specs.declared.Pid.{Pid}

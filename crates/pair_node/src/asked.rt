@@ -15,7 +15,7 @@ ghost use Rattle.std.specs.Prelude.{◌&&◌, ◌≡◌, ◌-◌, ◌<◌, ◌^�
 
 use file_calls::store::FileStore;
 use kernel_model::{Does, Life};
-use lwk_node::{Process, ScriptLine};
+use kernel_tables::{Process, ScriptLine};
 use lwk_threads::Thread;
 use mck_word::{Pid, Req, Tid};
 use page_map::PageTable;

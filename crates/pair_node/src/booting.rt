@@ -2,7 +2,7 @@
 ghost use Rattle.file_model.specs.Files.{Files};
 ghost use Rattle.hybrid_model.specs.Boot.{boot, shortage};
 ghost use Rattle.job_model.specs.Prepared.{IsPrepared};
-ghost use Rattle.lwk_node.specs.Shown.{node_of};
+ghost use Rattle.kernel_tables.specs.Shown.{node_of};
 ghost use Rattle.mck_word.specs.Maps.{keys};
 ghost use Rattle.pair_core.specs.Booting.{BootLacks};
 ghost use Rattle.pair_core.specs.Shown.{pair_of};
@@ -12,14 +12,14 @@ use crate::members::Members;
 use crate::pair::Pair;
 use job_files::JobFiles;
 use job_model::{Image, Job};
-use lwk_node::Node;
+use kernel_tables::KernelTables;
 use mck_word::{NoMemory, Pid};
 use page_map::PageTable;
 use pair_core::{BootError, Parts};
 use std::alloc::Global;
 
 /// The numbers of the processes, rising.
-fn numbers(alloc: Global, node: &Node) -> Result<Vec<Pid>, NoMemory>
+fn numbers(alloc: Global, node: &KernelTables) -> Result<Vec<Pid>, NoMemory>
     ensures { IfOk result (λ pids. (files : Files) → map (λ p. p.0) pids.items ≡ keys (node_of node.now files).processes) }
 {
     let mut pids = Vec::new(alloc);

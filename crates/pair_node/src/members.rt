@@ -1,13 +1,13 @@
 // The lists of live threads, by core and by process.
 ghost use Rattle.file_model.specs.Files.{Files};
-ghost use Rattle.lwk_node.specs.Shown.{node_of};
+ghost use Rattle.kernel_tables.specs.Shown.{node_of};
 ghost use Rattle.number_groups.specs.Groups.{IsNext, NoneFrom};
 ghost use Rattle.pair_node.specs.Listed.{HasListRoom, HasRoomToList, if_left, IsListed, Moves, Owners, nobody, owners, touched_by, with_owner, without_gone};
 ghost use Rattle.std.specs.Prelude.{◌≡◌, ◌≤◌, ℕ, IfOk, MatchOption, None, OnOk, Option, Some};
 
 use hybrid_model::Event;
 use kernel_model::Does;
-use lwk_node::Node;
+use kernel_tables::KernelTables;
 use lwk_threads::ThreadTable;
 use mck_word::{NoMemory, Pid, Tid};
 use number_groups::Groups;
@@ -29,7 +29,7 @@ pub struct Members {
 }
 
 /// Which threads the event may make or end, and in which process they are.
-pub fn touched_by(node: &Node, event: Event) -> Touched
+pub fn touched_by(node: &KernelTables, event: Event) -> Touched
     ensures { (files : Files) → result ≡ touched_by (node_of node.now files) event }
 {
     match event {

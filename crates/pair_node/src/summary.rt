@@ -11,7 +11,7 @@ use file_calls::listing::Listing;
 use file_calls::store::FileStore;
 use file_summary::{outputs, paths};
 use kernel_model::Life;
-use lwk_node::ScriptLine;
+use kernel_tables::ScriptLine;
 use mck_word::{End, Items, NoMemory, Pid};
 use page_map::PageTable;
 use pair_core::{Parts, Side};

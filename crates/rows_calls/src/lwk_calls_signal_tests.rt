@@ -1,5 +1,5 @@
 // The calls on signals at concrete values, over a space of one page.
-ghost use Rattle.lwk_tables.specs.Rows.{FramesApart, FramesIn};
+ghost use Rattle.lwk_space.specs.Rows.{FramesApart, FramesIn};
 ghost use Rattle.mck_word.specs.Maps.{no_rows};
 ghost use Rattle.std.specs.Prelude.{◌≡◌, IfOk, length};
 
@@ -9,7 +9,7 @@ use frame_pool::FramePool;
 use kernel_model::Action;
 use lwk_calls::{deliver, kill, return_from_handler, sigaction, sigpending, sigprocmask, tgkill};
 use lwk_signals::{put_action, set_in};
-use lwk_tables::Space;
+use lwk_space::Space;
 use mck_flags::{Rights, SigSet};
 use mck_word::{NoMemory, PageRange};
 use page_map::{PageMap, PageTable};

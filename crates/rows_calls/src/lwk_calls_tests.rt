@@ -1,12 +1,12 @@
 // Local calls.
+use kernel_tables::KernelTables;
 use lwk_calls::{getpid, getppid, gettid, sets_clear_address, sets_robust_list};
-use lwk_node::Node;
 use mck_flags::SigSet;
 use mck_word::{Pid, Regs, Tid};
 
 #[test]
 fn a_thread_tells_its_numbers(rt: HostRuntime) {
-    let mut node = Node::new(rt.alloc(), 4, 100);
+    let mut node = KernelTables::new(rt.alloc(), 4, 100);
     let has_room = node.reserve_thread().is_ok();
     assert!(rt; has_room);
     let regs = Regs { pc: 64, x: [0; 32] };

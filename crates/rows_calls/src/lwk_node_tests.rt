@@ -1,7 +1,7 @@
 // A node whose guest forks, ends and waits, and is sent signals.
 use crate::one_guest::guest;
 use kernel_model::{Does, Life};
-use lwk_node::Node;
+use kernel_tables::KernelTables;
 use mck_flags::SigSet;
 use mck_word::{End, NoMemory, Pid, Regs, Tid};
 use std::test::Fail;
@@ -11,7 +11,7 @@ fn registers(pc: u64) -> Regs {
 }
 
 // Puts a guest in, where its number isn't used.
-fn begin(node: &mut Node, p: Pid) -> Result<(), NoMemory> {
+fn begin(node: &mut KernelTables, p: Pid) -> Result<(), NoMemory> {
     node.reserve_process()?;
     node.reserve_thread()?;
     let _all = node.instructions_in_all();
@@ -24,7 +24,7 @@ fn begin(node: &mut Node, p: Pid) -> Result<(), NoMemory> {
 }
 
 // Forks, where the caller lives and its process is there.
-fn forked(node: &mut Node, t: Tid, args: &[u64; 6]) -> Result<Option<Pid>, NoMemory> {
+fn forked(node: &mut KernelTables, t: Tid, args: &[u64; 6]) -> Result<Option<Pid>, NoMemory> {
     node.reserve_process()?;
     node.reserve_thread()?;
     let p = node.process_of_thread(t);
@@ -36,7 +36,7 @@ fn forked(node: &mut Node, t: Tid, args: &[u64; 6]) -> Result<Option<Pid>, NoMem
 }
 
 // Clones, where the caller lives and its process has fewer than sixteen threads.
-fn cloned(node: &mut Node, t: Tid, args: &[u64; 6]) -> Result<Option<Tid>, NoMemory> {
+fn cloned(node: &mut KernelTables, t: Tid, args: &[u64; 6]) -> Result<Option<Tid>, NoMemory> {
     node.reserve_thread()?;
     let p = node.process_of_thread(t);
     if node.has_thread(t) && node.live_threads(p) < 16 && node.next_number() < u32::MAX {
@@ -48,7 +48,7 @@ fn cloned(node: &mut Node, t: Tid, args: &[u64; 6]) -> Result<Option<Tid>, NoMem
 
 #[test]
 fn forks_ends_and_waits(rt: HostRuntime) -> Result<(), Fail> {
-    let mut node = Node::new(rt.alloc(), 64, 1000);
+    let mut node = KernelTables::new(rt.alloc(), 64, 1000);
     begin(&mut node, Pid(1))?;
     assert!(rt; node.may_run(Tid(1)));
     if node.left_of_limit() >= 5 {
@@ -79,7 +79,7 @@ fn forks_ends_and_waits(rt: HostRuntime) -> Result<(), Fail> {
 
 #[test]
 fn signals_and_answers(rt: HostRuntime) -> Result<(), Fail> {
-    let mut node = Node::new(rt.alloc(), 64, 1000);
+    let mut node = KernelTables::new(rt.alloc(), 64, 1000);
     begin(&mut node, Pid(1))?;
     let t = Tid(1);
     node.generate_for_process(Pid(1), 17);

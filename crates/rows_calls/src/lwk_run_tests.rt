@@ -2,7 +2,7 @@
 use frame_mem::FrameMem;
 use isa_model::{Lack, Stop};
 use lwk_run::run;
-use lwk_tables::Space;
+use lwk_space::Space;
 use mck_word::{Access, Regs};
 use page_map::{PageMap, PageTable};
 use rv64i_user::KnownWords;

@@ -1,5 +1,5 @@
 // A space without a page has no bytes.
-use lwk_tables::Space;
+use lwk_space::Space;
 use lwk_views::{can_read, can_write};
 use mck_word::NoMemory;
 use page_map::{PageMap, PageTable};

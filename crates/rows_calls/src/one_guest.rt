@@ -2,7 +2,7 @@
 ghost use Rattle.std.specs.Prelude.{◌≡◌};
 
 use kernel_model::Life;
-use lwk_node::{Node, Process};
+use kernel_tables::{KernelTables, Process};
 use lwk_signals::Actions;
 use mck_flags::SigSet;
 use mck_word::{NoMemory, Pid, Regs, Tid};
@@ -30,8 +30,8 @@ pub fn guest() -> Process
 }
 
 /// A node with one process of one thread, whose stack ends at 0x1_0800.
-pub fn one_thread(alloc: Global) -> Result<Node, NoMemory> {
-    let mut node = Node::new(alloc, 1, 100);
+pub fn one_thread(alloc: Global) -> Result<KernelTables, NoMemory> {
+    let mut node = KernelTables::new(alloc, 1, 100);
     node.reserve_process()?;
     node.reserve_thread()?;
     let _all = node.instructions_in_all();
@@ -45,6 +45,6 @@ pub fn one_thread(alloc: Global) -> Result<Node, NoMemory> {
 }
 
 /// What the thread was answered.
-pub fn answer(node: &Node) -> u64 {
+pub fn answer(node: &KernelTables) -> u64 {
     node.regs(TID).x[10]
 }

@@ -2,7 +2,7 @@
 use isa_model::{Lack, Stop};
 use mck_flags::Rights;
 use mck_word::{Access, NoMemory, Regs};
-use paged_rows::{PageRow, PagedRows};
+use paged_memory::{PageRow, PagedRows};
 use rv64i_user::{Kept, KnownWords, UserMem, run_known, run_most, step, step_known, step_to};
 use std::alloc::Global;
 

@@ -1,11 +1,11 @@
 // What the calls on a space ask for, tested where they run.
-ghost use Rattle.lwk_tables.specs.Rows.{AbsentIn, FramesIn, PresentIn};
+ghost use Rattle.lwk_space.specs.Rows.{AbsentIn, FramesIn, PresentIn};
 ghost use Rattle.mck_word.specs.Maps.{at};
 ghost use Rattle.std.specs.Prelude.{◌≡◌, ◌≤◌, ◌<◌, ◌^◌, IsTrue, length};
 
 use frame_mem::FrameMem;
 use frame_pool::FramePool;
-use lwk_tables::Space;
+use lwk_space::Space;
 use mck_flags::Rights;
 use mck_word::PageRange;
 use page_map::PageTable;

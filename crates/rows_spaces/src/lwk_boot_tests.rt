@@ -8,7 +8,7 @@ use frame_mem::FrameMem;
 use frame_pool::FramePool;
 use job_model::{Image, Segment, Segments};
 use lwk_boot::{guest_regs, load_guest};
-use lwk_tables::Space;
+use lwk_space::Space;
 use mck_flags::Rights;
 use mck_word::{Bytes, Frame, NoMemory};
 use page_map::{PageMap, PageTable};

@@ -4,7 +4,7 @@ use frame_pool::FramePool;
 use ikc_ring::Call;
 use kernel_model::Change;
 use lwk_changes::{decide, finish, make, make_room_for};
-use lwk_tables::Space;
+use lwk_space::Space;
 use mck_flags::Rights;
 use mck_word::{NoMemory, PageRange, Req, Tid};
 use page_map::{PageMap, PageTable};

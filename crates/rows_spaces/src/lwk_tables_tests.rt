@@ -1,7 +1,7 @@
 // A space without a page, and a copy of it.
 use frame_mem::FrameMem;
 use frame_pool::FramePool;
-use lwk_tables::Space;
+use lwk_space::Space;
 use mck_word::{Access, NoMemory, PageRange};
 use page_map::{PageMap, PageTable};
 

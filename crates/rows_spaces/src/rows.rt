@@ -1,5 +1,5 @@
 // The rows.
-ghost use Rattle.lwk_tables.specs.Rows.{FramesIn};
+ghost use Rattle.lwk_space.specs.Rows.{FramesIn};
 ghost use Rattle.std.specs.Prelude.{◌≤◌, ◌<◌, ◌^◌};
 ghost use Rattle.std.specs.Option.{ForSome};
 
@@ -9,7 +9,7 @@ use frame_pool::FramePool;
 use ikc_ring::Call;
 use isa_model::Lack;
 use kernel_model::Change;
-use lwk_tables::Space;
+use lwk_space::Space;
 use mck_flags::Rights;
 use mck_word::{Access, Frame, NoMemory, PageRange, Req, Tid};
 use page_map::{PageMap, PageTable};

@@ -2,7 +2,7 @@
 //!
 //! Promises nothing of its own: a module has the tests of the crate that its name begins with.
 //! `small_files` has the image that several read. The tables of jobs and of assembler texts are read by the program rows_broken_lines,
-//! those of images by image_rules.
+//! those of images by rows_images.
 #![tactic(auto)]
 
 #[cfg(test)]

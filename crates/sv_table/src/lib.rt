@@ -22,7 +22,7 @@ ghost use Rattle.sv_table.specs.Words.{HasEntry};
 
 use mck_flags::Rights;
 use mck_word::{Frame, NoMemory, PageRange};
-use node::Node;
+use node::TablePage;
 use page_map::PageTable;
 use pages::PAGES;
 use slab::Slab;
@@ -32,7 +32,7 @@ use std::marker::Model;
 /// A table of three levels, seen as its nodes by their keys, each as its 512 words.
 #[derive(Drop)]
 pub struct SvTable {
-    nodes: Slab<Node>,
+    nodes: Slab<TablePage>,
 }
 
 impl Model for SvTable {

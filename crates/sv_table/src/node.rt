@@ -11,12 +11,12 @@ pub const ENTRIES: usize = 512;
 
 /// A node, seen as its 512 words.
 #[derive(Drop)]
-pub struct Node {
+pub struct TablePage {
     words: [u64; ENTRIES],
     used: u16,
 }
 
-impl Model for Node {
+impl Model for TablePage {
     ghost use Rattle.std.specs.Prelude.{List, ℕ};
     ghost use Rattle.std.specs.Coded.{coded_list, coded_ℕ};
     ghost use Rattle.sv_table.specs.Words.{IsCounted};
@@ -30,12 +30,12 @@ impl Model for Node {
     ghost invariant = { λ n. IsCounted n.words n.used };
 }
 
-impl Node {
+impl TablePage {
     /// A node without an entry.
-    pub fn new() -> Node
+    pub fn new() -> TablePage
         ensures { result ≡ empty_node }
     {
-        Node {
+        TablePage {
             words: [0; ENTRIES],
             used: 0,
         }
@@ -78,13 +78,13 @@ impl Node {
     }
 }
 
-impl Clone for Node {
+impl Clone for TablePage {
     ghost use Rattle.std.specs.Prelude.{◌≡◌};
 
     ghost is_clone = { λ a b. b ≡ a };
 
     fn clone(&self) -> Result<Self, AllocError> {
-        Ok(Node {
+        Ok(TablePage {
             words: self.words,
             used: self.used,
         })

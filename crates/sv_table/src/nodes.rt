@@ -8,7 +8,7 @@ ghost use Rattle.sv_table.specs.Trees.{IsEntry, IsOpenTree, IsTree};
 ghost use Rattle.sv_table.specs.Walks.{above, child, key_at, place_of_leaf, walk};
 ghost use Rattle.sv_table.specs.Words.{is_present, page_in};
 
-use crate::node::Node;
+use crate::node::TablePage;
 use crate::words::{key_of, node_entry};
 use slab::Slab;
 
@@ -16,7 +16,7 @@ use slab::Slab;
 pub const ROOT: usize = 0;
 
 /// The node below an entry.
-pub fn child_of(nodes: &Slab<Node>, key: usize, i: usize) -> Option<usize>
+pub fn child_of(nodes: &Slab<TablePage>, key: usize, i: usize) -> Option<usize>
     requires { i < 512 }
     ensures { result ≡ child (get nodes.now) key i }
 {
@@ -27,7 +27,7 @@ pub fn child_of(nodes: &Slab<Node>, key: usize, i: usize) -> Option<usize>
 }
 
 /// The node at a place.
-pub fn find(nodes: &Slab<Node>, place: u64) -> Option<usize>
+pub fn find(nodes: &Slab<TablePage>, place: u64) -> Option<usize>
     requires { place < 262657 }
     ensures { result ≡ key_at (get nodes.now) place }
 {
@@ -43,7 +43,7 @@ pub fn find(nodes: &Slab<Node>, place: u64) -> Option<usize>
 }
 
 /// Puts a word in a node that is there.
-fn put(nodes: &mut Slab<Node>, key: usize, i: usize, word: u64)
+fn put(nodes: &mut Slab<TablePage>, key: usize, i: usize, word: u64)
     requires there { ContainsKey nodes.old key }
     requires inside { i < 512 }
     ensures word { Updates nodes.old nodes.new key (option_map (λ words. slice_set words i word) (get nodes.old key)) }
@@ -54,7 +54,7 @@ fn put(nodes: &mut Slab<Node>, key: usize, i: usize, word: u64)
 }
 
 /// The node at a place: the one that is there, or else a new one without an entry.
-pub fn make(nodes: &mut Slab<Node>, parent: usize, place: u64) -> usize
+pub fn make(nodes: &mut Slab<TablePage>, parent: usize, place: u64) -> usize
     requires low { 1 ≤ place }
     requires high { place < 262657 }
     requires tree { IsOpenTree (get nodes.old) parent }
@@ -71,13 +71,13 @@ pub fn make(nodes: &mut Slab<Node>, parent: usize, place: u64) -> usize
     if let Some(key) = child_of(nodes, parent, i) {
         return key;
     }
-    let key = nodes.insert_reserved(Node::new());
+    let key = nodes.insert_reserved(TablePage::new());
     put(nodes, parent, i, node_entry(key));
     key
 }
 
 /// Gives a node back where it has no entry. What it takes from the one above leaves that one open.
-pub fn give_back(nodes: &mut Slab<Node>, parent: usize, key: usize, place: u64)
+pub fn give_back(nodes: &mut Slab<TablePage>, parent: usize, key: usize, place: u64)
     requires low { 1 ≤ place }
     requires high { place < 262657 }
     requires tree { IsOpenTree (get nodes.old) key }
@@ -96,7 +96,7 @@ pub fn give_back(nodes: &mut Slab<Node>, parent: usize, key: usize, place: u64)
 }
 
 /// Puts a word for a page in its leaf.
-pub fn set_word(nodes: &mut Slab<Node>, leaf: usize, page: u64, word: u64)
+pub fn set_word(nodes: &mut Slab<TablePage>, leaf: usize, page: u64, word: u64)
     requires low { page < 2 ^ 27 }
     requires entry { IsEntry word }
     requires tree { IsOpenTree (get nodes.old) leaf }

@@ -10,7 +10,7 @@ ghost use Rattle.sv_table.specs.Trees.{IsEntry, IsOpenTree, IsTree};
 ghost use Rattle.sv_table.specs.Walks.{key_at, place_of_leaf, place_of_middle, rows_of, walk};
 ghost use Rattle.sv_table.specs.Words.{page_in};
 
-use crate::node::Node;
+use crate::node::TablePage;
 use crate::nodes::{ROOT, child_of, give_back, make, set_word};
 use crate::words::{is_there, page_entry, page_of};
 use mck_flags::Rights;
@@ -26,7 +26,7 @@ const PAGES_OF_MIDDLE: u64 = 262_144;
 const PAGES_OF_LEAF: u64 = 512;
 
 /// The leaf of a page, where there is one.
-pub fn leaf_of(nodes: &Slab<Node>, page: u64) -> Option<usize>
+pub fn leaf_of(nodes: &Slab<TablePage>, page: u64) -> Option<usize>
     requires { page < 2 ^ 27 }
     ensures { result ≡ key_at (get nodes.now) (place_of_leaf page) }
 {
@@ -35,7 +35,7 @@ pub fn leaf_of(nodes: &Slab<Node>, page: u64) -> Option<usize>
 }
 
 /// The word of a page in its leaf.
-fn word_of(nodes: &Slab<Node>, leaf: usize, page: u64) -> u64
+fn word_of(nodes: &Slab<TablePage>, leaf: usize, page: u64) -> u64
     requires low { page < 2 ^ 27 }
     requires tree { IsTree (get nodes.now) }
     requires leaf { key_at (get nodes.now) (place_of_leaf page) ≡ Some leaf }
@@ -46,7 +46,7 @@ fn word_of(nodes: &Slab<Node>, leaf: usize, page: u64) -> u64
 }
 
 /// What a page has: the walk by its three indexes.
-pub fn look_up(nodes: &Slab<Node>, page: u64) -> Option<(Frame, Rights)>
+pub fn look_up(nodes: &Slab<TablePage>, page: u64) -> Option<(Frame, Rights)>
     requires low { page < 2 ^ 27 }
     requires tree { IsTree (get nodes.now) }
     ensures { result ≡ walk (get nodes.now) page }
@@ -56,7 +56,7 @@ pub fn look_up(nodes: &Slab<Node>, page: u64) -> Option<(Frame, Rights)>
 }
 
 /// Puts a page in for which there is room.
-pub fn put_in(nodes: &mut Slab<Node>, page: u64, f: Frame, r: Rights)
+pub fn put_in(nodes: &mut Slab<TablePage>, page: u64, f: Frame, r: Rights)
     requires low { page < 2 ^ 27 }
     requires tree { IsTree (get nodes.old) }
     requires room { RoomAt (FitsIn nodes.old) page }
@@ -73,7 +73,7 @@ pub fn put_in(nodes: &mut Slab<Node>, page: u64, f: Frame, r: Rights)
 }
 
 /// The nodes on the way to a page that is there: that of the middle level, and its leaf.
-fn path_of(nodes: &Slab<Node>, page: u64) -> (usize, usize)
+fn path_of(nodes: &Slab<TablePage>, page: u64) -> (usize, usize)
     requires low { page < 2 ^ 27 }
     requires there { IsTrue (is_some (walk (get nodes.now) page)) }
     ensures middle { key_at (get nodes.now) (place_of_middle page) ≡ Some result.0 }
@@ -89,7 +89,7 @@ fn path_of(nodes: &Slab<Node>, page: u64) -> (usize, usize)
 }
 
 /// Gives a page that is there other rights.
-pub fn change(nodes: &mut Slab<Node>, page: u64, r: Rights)
+pub fn change(nodes: &mut Slab<TablePage>, page: u64, r: Rights)
     requires low { page < 2 ^ 27 }
     requires tree { IsTree (get nodes.old) }
     requires there { IsTrue (is_some (walk (get nodes.old) page)) }
@@ -107,7 +107,7 @@ pub fn change(nodes: &mut Slab<Node>, page: u64, r: Rights)
 }
 
 /// Takes a page out that is there, and answers its frame. Nodes that are left without an entry are given back.
-pub fn take_out(nodes: &mut Slab<Node>, page: u64) -> Frame
+pub fn take_out(nodes: &mut Slab<TablePage>, page: u64) -> Frame
     requires low { page < 2 ^ 27 }
     requires tree { IsTree (get nodes.old) }
     requires there { IsTrue (is_some (walk (get nodes.old) page)) }
@@ -129,7 +129,7 @@ pub fn take_out(nodes: &mut Slab<Node>, page: u64) -> Frame
 }
 
 /// The page itself where it is there, or else the next one that isn't below the same absent entry.
-fn skip(nodes: &Slab<Node>, page: u64) -> u64
+fn skip(nodes: &Slab<TablePage>, page: u64) -> u64
     requires low { page < 2 ^ 27 }
     requires tree { IsTree (get nodes.now) }
     ensures there { result ≡ page → IsTrue (is_some (walk (get nodes.now) page)) }
@@ -151,7 +151,7 @@ fn skip(nodes: &Slab<Node>, page: u64) -> u64
 }
 
 /// The least page from there on that is there.
-pub fn next_page(nodes: &Slab<Node>, from: u64) -> Option<u64>
+pub fn next_page(nodes: &Slab<TablePage>, from: u64) -> Option<u64>
     requires { IsTree (get nodes.now) }
     ensures { result ≡ key_from (rows_of (get nodes.now)) from }
 {

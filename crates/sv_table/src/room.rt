@@ -7,7 +7,7 @@ ghost use Rattle.sv_table.specs.Room.{absent, absent_from};
 ghost use Rattle.sv_table.specs.Trees.{IsTable};
 ghost use Rattle.sv_table.specs.Walks.{rows_of};
 
-use crate::node::Node;
+use crate::node::TablePage;
 use crate::nodes::find;
 use mck_word::{NoMemory, PageRange};
 use slab::Slab;
@@ -17,7 +17,7 @@ use std::alloc::Global;
 const MOST_NODES: usize = 1 << 32;
 
 /// How many places from `first` up to `end` have no node.
-fn absent_between(nodes: &Slab<Node>, first: u64, end: u64) -> u64
+fn absent_between(nodes: &Slab<TablePage>, first: u64, end: u64) -> u64
     requires { end ≤ 262657 }
     ensures value { result ≡ absent_from (get nodes.now) first end }
     ensures few { result ≤ 262657 }
@@ -32,7 +32,7 @@ fn absent_between(nodes: &Slab<Node>, first: u64, end: u64) -> u64
 }
 
 /// How many nodes on the paths of the ranges' pages are absent.
-pub fn lacking(nodes: &Slab<Node>, ranges: &[PageRange]) -> u64
+pub fn lacking(nodes: &Slab<TablePage>, ranges: &[PageRange]) -> u64
     requires { AreRanges ranges.now }
     ensures { result ≡ absent (get nodes.now) ranges.now }
 {
@@ -55,7 +55,7 @@ pub fn lacking(nodes: &Slab<Node>, ranges: &[PageRange]) -> u64
 
 /// Makes places for so many more nodes. No contract of a slab bounds from above how many places it makes, and a key
 /// has to fit in its entry: so the larger slab is made beside this one, and comes in its place if it isn't too large.
-pub fn grow(nodes: &mut Slab<Node>, more: usize) -> Result<(), NoMemory>
+pub fn grow(nodes: &mut Slab<TablePage>, more: usize) -> Result<(), NoMemory>
     requires { nodes.old.capacity ≤ 2 ^ 32 }
     ensures same { nodes.new.slots ≡ nodes.old.slots }
     ensures few { nodes.new.capacity ≤ 2 ^ 32 }
@@ -76,7 +76,7 @@ pub fn grow(nodes: &mut Slab<Node>, more: usize) -> Result<(), NoMemory>
 }
 
 /// The root alone.
-pub fn root_alone(alloc: Global) -> Result<Slab<Node>, NoMemory>
+pub fn root_alone(alloc: Global) -> Result<Slab<TablePage>, NoMemory>
     ensures table { IfOk result (λ nodes. IsTable nodes) }
     ensures empty { IfOk result (λ nodes. rows_of (get nodes) ≡ no_rows) }
 {
@@ -85,6 +85,6 @@ pub fn root_alone(alloc: Global) -> Result<Slab<Node>, NoMemory>
     if nodes.capacity() > MOST_NODES {
         return Err(NoMemory);
     }
-    nodes.insert_reserved(Node::new());
+    nodes.insert_reserved(TablePage::new());
     Ok(nodes)
 }

@@ -2,7 +2,7 @@ use Rattle.lwk_changes.proofs.decide.Goals as goal
 use Rattle.isa_model.specs.Memory.{Memory}
 use Rattle.kernel_model.specs.MemoryCalls.{decide}
 use Rattle.kernel_model.specs.Nodes.{Process, no_process}
-use Rattle.lwk_tables.specs.Lacks.{memory}
+use Rattle.lwk_space.specs.Lacks.{memory}
 use Rattle.offer_laws.proofs.ChangeFits.{decide-fits}
 use Rattle.offer_laws.specs.ChangeFits.{DecisionFits}
 use Rattle.std.proofs.Common.{ap, arith, refl, subst, sym, ◌∙◌}

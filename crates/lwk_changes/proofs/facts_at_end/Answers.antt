@@ -1,6 +1,6 @@
 use Rattle.kernel_model.specs.MemoryCalls.{count_present}
 use Rattle.lwk_changes.proofs.Shown.{memory-shown}
-use Rattle.lwk_tables.specs.Lacks.{memory}
+use Rattle.lwk_space.specs.Lacks.{memory}
 use Rattle.std.proofs.Common.{◌≡◌, ap, subst, sym, ◌∙◌}
 use Rattle.lwk_changes.proofs.facts_at_end.Goals as goal
 

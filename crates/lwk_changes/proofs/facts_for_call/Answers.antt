@@ -1,6 +1,6 @@
 use Rattle.kernel_model.specs.MemoryCalls.{any_lessened, count_present}
 use Rattle.lwk_changes.proofs.Shown.{memory-shown}
-use Rattle.lwk_tables.specs.Lacks.{memory}
+use Rattle.lwk_space.specs.Lacks.{memory}
 use Rattle.std.proofs.Common.{◌≡◌, ap, arith, subst, sym, ◌∙◌}
 use Rattle.std.proofs.lemmas.Bool.Decides.{nat_tests}
 use Rattle.lwk_changes.proofs.facts_for_call.Goals as goal

@@ -1,6 +1,6 @@
 use Rattle.isa_model.specs.Memory.{read_bytes}
-use Rattle.lwk_tables.proofs.BytesRead.{not-allowed}
-use Rattle.lwk_tables.specs.Lacks.{memory}
+use Rattle.lwk_space.proofs.BytesRead.{not-allowed}
+use Rattle.lwk_space.specs.Lacks.{memory}
 use Rattle.mck_word.specs.declared.Access.TheVariants.{Read}
 use Rattle.std.proofs.Common.{ap, cond, length, sym, ◌∙◌}
 use Rattle.lwk_views.proofs.read_into.Goals as goal

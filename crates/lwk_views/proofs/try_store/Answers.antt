@@ -1,5 +1,5 @@
-use Rattle.lwk_tables.proofs.BytesRead.{not-allowed}
-use Rattle.lwk_tables.specs.Lacks.{memory}
+use Rattle.lwk_space.proofs.BytesRead.{not-allowed}
+use Rattle.lwk_space.specs.Lacks.{memory}
 use Rattle.lwk_views.proofs.Reading.{tried_not}
 use Rattle.mck_word.specs.declared.Access.TheVariants.{Write}
 use Rattle.std.proofs.Common.{ap, length, sym, ◌∙◌}

@@ -1,6 +1,6 @@
 use Rattle.job_boot.proofs.guests.boot_node.Goals as goal
 use Rattle.kernel_model.specs.OneKernel.{boot_files}
-use Rattle.lwk_node.specs.Shown.{node_of}
+use Rattle.kernel_tables.specs.Shown.{node_of}
 
 pub returns : goal.returns
 unfolding node_of

@@ -1,7 +1,7 @@
 use Rattle.job_boot.proofs.Nodes.{alone, one-more}
 use Rattle.job_boot.proofs.guests.put_guest.Goals as goal
 use Rattle.kernel_model.specs.Nodes.{Node, threads_of}
-use Rattle.lwk_node.specs.Shown.{node_of, shown_process}
+use Rattle.kernel_tables.specs.Shown.{node_of, shown_process}
 use Rattle.std.proofs.Common.{ap, length, ◌∙◌}
 
 pub begin_thread-requires-clause-alone : goal.begin_thread-requires-clause-alone

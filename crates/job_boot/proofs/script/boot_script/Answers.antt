@@ -2,8 +2,8 @@ use Rattle.job_model.specs.Prepared.{IsForGuest}
 use Rattle.job_model.specs.declared.job.SignalLine.{SignalLine}
 use Rattle.kernel_model.specs.Nodes.{ScriptLine as KernelLine}
 use Rattle.kernel_model.specs.OneKernel.{script_lines}
-use Rattle.lwk_node.specs.Shown.{shown_line}
-use Rattle.lwk_node.specs.declared.script_lines.ScriptLine.{ScriptLine}
+use Rattle.kernel_tables.specs.Shown.{shown_line}
+use Rattle.kernel_tables.specs.declared.script_lines.ScriptLine.{ScriptLine}
 use Rattle.job_boot.proofs.Lists.{all-rest, map-more}
 use Rattle.job_boot.proofs.script.boot_script.Goals as goal
 use Rattle.std.proofs.Common.{List, ap, arith, length, map, sym, ◌+◌, ◌++◌, ◌∙◌, ◌∷◌}

@@ -1,6 +1,6 @@
 use Rattle.job_model.specs.Prepared.{IsForGuest}
 use Rattle.kernel_model.specs.OneKernel.{script_lines}
-use Rattle.lwk_node.specs.Shown.{shown_line}
+use Rattle.kernel_tables.specs.Shown.{shown_line}
 use Rattle.job_boot.proofs.script.boot_script.Given as goal
 use Rattle.std.proofs.Common.{All, length, map, ◌+◌, ◌++◌, ◌<◌, ◌^◌, ◌≡◌}
 

@@ -5,7 +5,7 @@ use Rattle.lwk_boot.proofs.GuestPages.{guest-segments}
 use Rattle.lwk_boot.proofs.LeftOver.{pages-left}
 use Rattle.lwk_boot.proofs.Loading.{guest-has-top}
 use Rattle.lwk_boot.specs.Order.{left, pages_each}
-use Rattle.lwk_tables.specs.Frames.{space}
+use Rattle.lwk_space.specs.Frames.{space}
 use Rattle.mck_word.specs.Maps.{Map, entries}
 use Rattle.std.proofs.Common.{◌≡◌, ◌+◌, ap, arith, sym, ◌∙◌}
 use Rattle.lwk_boot.proofs.load.load_guest.Goals as goal

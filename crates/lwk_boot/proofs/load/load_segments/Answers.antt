@@ -8,7 +8,7 @@ use Rattle.lwk_boot.proofs.LeftOver.{left-none, ones-left}
 use Rattle.lwk_boot.proofs.Loading.{copied-end, copied-next, has-in}
 use Rattle.lwk_boot.specs.Guests.{first_page, from_page, last_end, segment_at}
 use Rattle.lwk_boot.specs.Order.{AreBefore, IsNext, NoneLeft, left, one_each, pages_each}
-use Rattle.lwk_tables.specs.Frames.{space}
+use Rattle.lwk_space.specs.Frames.{space}
 use Rattle.mck_word.specs.MapLaws.{at-none}
 use Rattle.mck_word.specs.Maps.{Map, at, entries}
 use Rattle.mck_word.specs.declared.PageRange.{PageRange}

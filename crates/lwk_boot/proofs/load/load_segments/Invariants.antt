@@ -4,7 +4,7 @@ use Rattle.lwk_boot.specs.Guests.{HasSegments, from_page}
 use Rattle.lwk_boot.specs.Loads.{NoneFrom}
 use Rattle.lwk_boot.specs.Order.{AreBefore, left, one_each, pages_each}
 use Rattle.lwk_boot.specs.Rooms.{HasRoom}
-use Rattle.lwk_tables.specs.Frames.{space}
+use Rattle.lwk_space.specs.Frames.{space}
 use Rattle.mck_word.specs.Maps.{entries}
 use Rattle.std.specs.Prelude.{length, ◌+◌, ◌≡◌, ◌≤◌}
 use Rattle.lwk_boot.proofs.load.load_segments.Given as goal

@@ -1,5 +1,5 @@
 use Rattle.lwk_boot.proofs.Loading.{top-end, top-last, top-stack, top-trampoline}
-use Rattle.lwk_tables.specs.Frames.{space}
+use Rattle.lwk_space.specs.Frames.{space}
 use Rattle.std.proofs.Common.{◌∙◌}
 use Rattle.lwk_boot.proofs.load.load_top.Goals as goal
 

@@ -2,7 +2,7 @@ use Rattle.hybrid_model.specs.Spaces.{Space, copied_pages}
 use Rattle.lwk_boot.proofs.Copies.{some-pages}
 use Rattle.lwk_boot.proofs.Loading.{fill-behind, fill-free}
 use Rattle.lwk_boot.specs.Guests.{from_page}
-use Rattle.lwk_tables.specs.Frames.{space}
+use Rattle.lwk_space.specs.Frames.{space}
 use Rattle.mck_word.specs.Maps.{at, entries}
 use Rattle.std.proofs.Common.{◌≡◌, ◌+◌, ◌-◌, ap, arith, length, sym, ◌∙◌}
 use Rattle.lwk_boot.proofs.load.map_next.Goals as goal

@@ -1,6 +1,6 @@
 use Rattle.kernel_model.specs.SignalCalls.{action_in}
 use Rattle.lwk_calls.proofs.Pointing.{reads_there}
-use Rattle.lwk_tables.specs.Lacks.{memory}
+use Rattle.lwk_space.specs.Lacks.{memory}
 use Rattle.std.proofs.Common.{Some, ap, ◌∙◌}
 use Rattle.std.specs.Prelude.{replicate}
 use Rattle.lwk_calls.proofs.actions.asked_action.Goals as goal

@@ -5,7 +5,7 @@ use Rattle.kernel_model.specs.Signals.{View, on_node}
 use Rattle.lwk_calls.proofs.Acting.{sets_action_as}
 use Rattle.lwk_calls.proofs.Pointing.{stores_there}
 use Rattle.lwk_calls.specs.SignalWords.{given_action, stores_at}
-use Rattle.lwk_node.specs.Shown.{node_of}
+use Rattle.kernel_tables.specs.Shown.{node_of}
 use Rattle.lwk_views.proofs.Doing.{begins, did, did_as, steps}
 use Rattle.lwk_views.specs.Views.{seen}
 use Rattle.std.proofs.Common.{ap, pos, ◌∙◌}

@@ -3,7 +3,7 @@ use Rattle.kernel_model.specs.Signals.{View}
 use Rattle.lwk_calls.proofs.Acting.{action_is, action_pointed, signal_known}
 use Rattle.lwk_calls.proofs.Refusing.{goes_on, refused_did}
 use Rattle.lwk_calls.specs.SignalWords.{action_refusal}
-use Rattle.lwk_tables.specs.Lacks.{memory}
+use Rattle.lwk_space.specs.Lacks.{memory}
 use Rattle.lwk_views.specs.Views.{Did}
 use Rattle.std.proofs.Common.{ap, of_z, rules, subst, sym, to_z, w32, w64, ◌≡◌, ◌≤◌, ◌∙◌}
 use Rattle.lwk_calls.proofs.actions.sigaction.Goals as goal

@@ -1,5 +1,5 @@
 use Rattle.lwk_calls.specs.SignalWords.{put_at}
-use Rattle.lwk_tables.specs.Lacks.{memory}
+use Rattle.lwk_space.specs.Lacks.{memory}
 use Rattle.std.proofs.Common.{ap, ◌∙◌}
 use Rattle.lwk_calls.proofs.actions.store_action.Goals as goal
 

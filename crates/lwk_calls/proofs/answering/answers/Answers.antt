@@ -1,5 +1,5 @@
 use Rattle.kernel_model.specs.Nodes.{answered}
-use Rattle.lwk_node.specs.Shown.{node_of}
+use Rattle.kernel_tables.specs.Shown.{node_of}
 use Rattle.lwk_views.proofs.Doing.{did_alone}
 use Rattle.std.proofs.Common.{ap, of_z, rules, to_z, w64, ◌≡◌, ◌∙◌}
 use Rattle.lwk_calls.proofs.answering.answers.Goals as goal

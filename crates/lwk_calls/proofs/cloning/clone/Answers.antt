@@ -3,7 +3,7 @@ use Rattle.kernel_model.specs.Nodes.{thread_of, threads_of}
 use Rattle.kernel_model.specs.Signals.{View}
 use Rattle.lwk_calls.proofs.Refusing.{clone_is, refused_did}
 use Rattle.lwk_calls.specs.Words.{clone_refusal}
-use Rattle.lwk_node.specs.Shown.{node_of}
+use Rattle.kernel_tables.specs.Shown.{node_of}
 use Rattle.std.proofs.Common.{ap, length, of_z, rules, slice_index, sym, to_z, w64, ◌≡◌, ◌∙◌}
 use Rattle.lwk_calls.proofs.cloning.clone.Goals as goal
 

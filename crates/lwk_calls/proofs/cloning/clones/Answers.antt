@@ -1,8 +1,8 @@
 use Rattle.kernel_model.specs.CloneCalls.{clones}
 use Rattle.lwk_calls.proofs.Begun.{clones_stand}
 use Rattle.lwk_calls.specs.Words.{told}
-use Rattle.lwk_node.specs.Shown.{node_of}
-use Rattle.lwk_tables.specs.Lacks.{memory}
+use Rattle.kernel_tables.specs.Shown.{node_of}
+use Rattle.lwk_space.specs.Lacks.{memory}
 use Rattle.lwk_views.proofs.Doing.{did}
 use Rattle.lwk_views.proofs.Reading.{others_more}
 use Rattle.std.proofs.Common.{ap, pos, rules, slice_index, to_z, w64, ◌≡◌, ◌∙◌}

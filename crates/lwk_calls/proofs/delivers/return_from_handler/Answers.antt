@@ -2,7 +2,7 @@ use Rattle.isa_model.specs.Memory.{may_access, read_bytes}
 use Rattle.kernel_model.specs.Signals.{frame_size, mask_in, on_node, raised, restored, return_from_handler}
 use Rattle.isa_model.specs.Registers.{reg}
 use Rattle.lwk_calls.proofs.Delivering.{comes_back, comes_not, goes_back}
-use Rattle.lwk_tables.specs.Lacks.{memory}
+use Rattle.lwk_space.specs.Lacks.{memory}
 use Rattle.lwk_views.proofs.Doing.{did_as, did_on_node}
 use Rattle.lwk_views.specs.Views.{seen}
 use Rattle.mck_word.specs.declared.Access.TheVariants.{Read}

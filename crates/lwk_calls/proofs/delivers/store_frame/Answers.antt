@@ -1,5 +1,5 @@
 use Rattle.isa_model.specs.Memory.{may_access, write_bytes}
-use Rattle.lwk_tables.specs.Lacks.{memory}
+use Rattle.lwk_space.specs.Lacks.{memory}
 use Rattle.mck_word.specs.declared.Access.TheVariants.{Write}
 use Rattle.std.proofs.Common.{ap, cond, ◌∙◌}
 use Rattle.lwk_calls.proofs.delivers.store_frame.Goals as goal

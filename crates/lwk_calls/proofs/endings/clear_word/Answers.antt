@@ -2,7 +2,7 @@ use Rattle.kernel_model.specs.LocalCalls.{wake}
 use Rattle.kernel_model.specs.Nodes.{Node as KernelNode}
 use Rattle.kernel_model.specs.Signals.{View, on_node, try_store}
 use Rattle.lwk_calls.specs.Words.{cleared}
-use Rattle.lwk_node.specs.Shown.{node_of}
+use Rattle.kernel_tables.specs.Shown.{node_of}
 use Rattle.lwk_views.proofs.Doing.{begins, did, did_as, did_on_node, steps, tries}
 use Rattle.lwk_views.specs.Views.{seen}
 use Rattle.mck_word.specs.Words.{little_endian}

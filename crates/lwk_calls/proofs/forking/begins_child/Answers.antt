@@ -4,10 +4,10 @@ use Rattle.kernel_model.specs.Nodes.{thread_of}
 use Rattle.lwk_calls.proofs.Children.{child_stands}
 use Rattle.lwk_calls.proofs.forking.begins_child.Goals as goal
 use Rattle.lwk_calls.specs.Words.{told}
-use Rattle.lwk_node.specs.Shown.{node_of}
-use Rattle.lwk_tables.proofs.WrittenBack.{written-back}
-use Rattle.lwk_tables.specs.Frames.{frames_map}
-use Rattle.lwk_tables.specs.Lacks.{memory}
+use Rattle.kernel_tables.specs.Shown.{node_of}
+use Rattle.lwk_space.proofs.WrittenBack.{written-back}
+use Rattle.lwk_space.specs.Frames.{frames_map}
+use Rattle.lwk_space.specs.Lacks.{memory}
 use Rattle.std.proofs.Common.{ap, pos, rules, slice_index, sym, to_z, w64, ◌≡◌, ◌∙◌}
 
 pub returns-clause-node : goal.returns-clause-node

@@ -2,7 +2,7 @@ use Rattle.file_model.specs.Errno.{EINVAL}
 use Rattle.kernel_model.specs.LocalCalls.{futex_wake, refuses, wake_count}
 use Rattle.kernel_model.specs.Signals.{on_node}
 use Rattle.lwk_calls.proofs.Waking.{wakes, wakes_is}
-use Rattle.lwk_node.specs.Shown.{node_of}
+use Rattle.kernel_tables.specs.Shown.{node_of}
 use Rattle.lwk_views.proofs.Doing.{did_alone, did_alone_as}
 use Rattle.lwk_views.specs.Views.{seen}
 use Rattle.std.proofs.Common.{ap, cond, not, of_z, pos, rules, to_z, w32, w64, ◌%◌, ◌≡◌, ◌∙◌}

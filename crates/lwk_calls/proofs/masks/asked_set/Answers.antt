@@ -1,5 +1,5 @@
 use Rattle.lwk_calls.proofs.Pointing.{reads_there}
-use Rattle.lwk_tables.specs.Lacks.{memory}
+use Rattle.lwk_space.specs.Lacks.{memory}
 use Rattle.mck_flags.specs.declared.signal_set.SigSet.{SigSet}
 use Rattle.mck_word.specs.Words.{number_of}
 use Rattle.std.proofs.Common.{List, Some, ℕ, ◌∙◌}

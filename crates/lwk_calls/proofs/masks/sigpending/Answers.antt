@@ -5,8 +5,8 @@ use Rattle.kernel_model.specs.Nodes.{answered}
 use Rattle.kernel_model.specs.SignalCalls.{sigpending}
 use Rattle.kernel_model.specs.Signals.{View, on_node, store}
 use Rattle.lwk_calls.proofs.Pending.{length_little, pending_large, pending_not, pending_told}
-use Rattle.lwk_node.specs.Shown.{node_of}
-use Rattle.lwk_tables.specs.Lacks.{memory}
+use Rattle.kernel_tables.specs.Shown.{node_of}
+use Rattle.lwk_space.specs.Lacks.{memory}
 use Rattle.lwk_views.proofs.Doing.{begins, did, did_as, steps, stores, unstored}
 use Rattle.lwk_views.proofs.Reading.{tried_done}
 use Rattle.lwk_views.specs.Views.{seen}

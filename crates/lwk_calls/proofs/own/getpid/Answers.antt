@@ -1,5 +1,5 @@
 use Rattle.kernel_model.specs.Nodes.{Node as KernelNode, answered, thread_of}
-use Rattle.lwk_node.specs.Shown.{node_of}
+use Rattle.kernel_tables.specs.Shown.{node_of}
 use Rattle.lwk_views.proofs.Doing.{did_alone}
 use Rattle.std.proofs.Common.{ap, pos, rules, to_z, w64, ℤ, ◌≡◌, ◌∙◌}
 use Rattle.lwk_calls.proofs.own.getpid.Goals as goal

@@ -1,5 +1,5 @@
 use Rattle.lwk_calls.specs.SignalWords.{readable, writable}
-use Rattle.lwk_tables.specs.Lacks.{memory}
+use Rattle.lwk_space.specs.Lacks.{memory}
 use Rattle.std.proofs.Common.{ap, not, sym, ◌∙◌}
 use Rattle.std.specs.Prelude.{◌||◌}
 use Rattle.lwk_calls.proofs.pointers.lacks_access.Goals as goal

@@ -1,5 +1,5 @@
 use Rattle.isa_model.specs.Memory.{may_access}
-use Rattle.lwk_tables.specs.Lacks.{memory}
+use Rattle.lwk_space.specs.Lacks.{memory}
 use Rattle.mck_word.specs.declared.Access.TheVariants.{Write}
 use Rattle.std.proofs.Common.{ap, sym, ◌∙◌}
 use Rattle.std.proofs.lemmas.Bool.{eq-eqb, ne_eqb}

@@ -1,4 +1,4 @@
-use Rattle.lwk_tables.specs.Rows.{FramesIn}
+use Rattle.lwk_space.specs.Rows.{FramesIn}
 use Rattle.lwk_views.proofs.Reading.{frames_in}
 use Rattle.std.proofs.Common.{rules, ◌∙◌}
 use Rattle.lwk_calls.proofs.signal_tests.an_action_is_given.Goals as goal

@@ -2,9 +2,9 @@ use Rattle.frame_pool.specs.Pools.{Pool}
 use Rattle.hybrid_model.specs.Sides.{Row}
 use Rattle.hybrid_model.specs.Spaces.{Space, add_page, first_number}
 use Rattle.kernel_model.specs.Spaces.{each_in}
-use Rattle.lwk_tables.specs.Frames.{frames_map}
+use Rattle.lwk_space.specs.Frames.{frames_map}
 use Rattle.mck_word.specs.Lists.{count_from}
-use Rattle.lwk_tables.specs.Rows.{FramesApart, FramesIn}
+use Rattle.lwk_space.specs.Rows.{FramesApart, FramesIn}
 use Rattle.mck_word.specs.MapLaws.{at-none, at-put}
 use Rattle.mck_word.specs.Maps.{Map, at, no_rows, put}
 use Rattle.std.proofs.Common.{ap, arith, refl, subst, sym, ◌∙◌}

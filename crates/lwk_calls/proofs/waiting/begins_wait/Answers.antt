@@ -3,7 +3,7 @@ use Rattle.kernel_model.specs.LocalCalls.{answers}
 use Rattle.kernel_model.specs.Nodes.{set_does}
 use Rattle.kernel_model.specs.Signals.{on_node}
 use Rattle.kernel_model.specs.declared.Does.TheVariants.{InWait}
-use Rattle.lwk_node.specs.Shown.{node_of}
+use Rattle.kernel_tables.specs.Shown.{node_of}
 use Rattle.lwk_views.proofs.Doing.{did_alone, did_alone_as}
 use Rattle.lwk_views.specs.Views.{seen}
 use Rattle.std.proofs.Common.{ap, cond, of_z, pos, rules, sym, to_z, w32, ◌≡◌, ◌∙◌}

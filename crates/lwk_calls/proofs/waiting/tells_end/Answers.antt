@@ -4,8 +4,8 @@ use Rattle.kernel_model.specs.CloneCalls.{status_of_life, tells_end}
 use Rattle.kernel_model.specs.Nodes.{Node as KernelNode, Process, answered, change_process}
 use Rattle.kernel_model.specs.Signals.{View, on_node}
 use Rattle.lwk_calls.proofs.Told.{stored_end, tells_nowhere, tells_not, tells_there, told_end}
-use Rattle.lwk_node.specs.Shown.{node_of}
-use Rattle.lwk_tables.specs.Lacks.{memory}
+use Rattle.kernel_tables.specs.Shown.{node_of}
+use Rattle.lwk_space.specs.Lacks.{memory}
 use Rattle.lwk_views.proofs.Doing.{begins, did, did_as, did_on_node, steps, stores, unstored}
 use Rattle.lwk_views.proofs.Reading.{tried_done}
 use Rattle.lwk_views.specs.Views.{seen}

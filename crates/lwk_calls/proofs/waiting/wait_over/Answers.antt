@@ -2,7 +2,7 @@ use Rattle.file_model.specs.Errno.{ECHILD}
 use Rattle.kernel_model.specs.CloneCalls.{ended_child, wait_over}
 use Rattle.kernel_model.specs.LocalCalls.{refuses}
 use Rattle.lwk_calls.proofs.Told.{none_ended}
-use Rattle.lwk_node.specs.Shown.{node_of}
+use Rattle.kernel_tables.specs.Shown.{node_of}
 use Rattle.lwk_views.proofs.Doing.{did_as}
 use Rattle.lwk_views.specs.Views.{seen}
 use Rattle.std.proofs.Common.{ap, of_z, rules, sym, to_z, w32, ◌≡◌, ◌∙◌}

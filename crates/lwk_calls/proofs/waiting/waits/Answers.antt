@@ -1,6 +1,6 @@
 use Rattle.kernel_model.specs.CloneCalls.{begins_wait, may_end_wait, wait_over}
 use Rattle.lwk_calls.specs.Words.{waits}
-use Rattle.lwk_node.specs.Shown.{node_of}
+use Rattle.kernel_tables.specs.Shown.{node_of}
 use Rattle.lwk_views.proofs.Doing.{did_as}
 use Rattle.lwk_views.specs.Views.{Did, seen}
 use Rattle.std.proofs.Common.{ap, cond, of_z, rules, subst, sym, to_z, w32, ◌≡◌, ◌∙◌}

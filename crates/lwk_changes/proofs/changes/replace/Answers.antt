@@ -1,6 +1,6 @@
 use Rattle.hybrid_model.specs.Spaces.{Space}
 use Rattle.lwk_changes.proofs.Making.{dropped-absent, enough-after}
-use Rattle.lwk_tables.specs.Frames.{space}
+use Rattle.lwk_space.specs.Frames.{space}
 use Rattle.mck_word.specs.Maps.{at}
 use Rattle.std.proofs.Common.{ap, arith, length, ◌∙◌}
 use Rattle.lwk_changes.proofs.changes.replace.Goals as goal

@@ -1,5 +1,5 @@
 use Rattle.lwk_run.proofs.Counted.{within}
-use Rattle.lwk_tables.proofs.WrittenBack.{written-back}
+use Rattle.lwk_space.proofs.WrittenBack.{written-back}
 use Rattle.std.proofs.Common.{rules, ◌+◌, ◌≤◌}
 use Rattle.lwk_run.proofs.running.run_lent.Goals as goal
 

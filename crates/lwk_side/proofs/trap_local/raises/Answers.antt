@@ -1,5 +1,5 @@
 use Rattle.kernel_model.specs.Signals.{raised}
-use Rattle.lwk_node.specs.Shown.{node_of}
+use Rattle.kernel_tables.specs.Shown.{node_of}
 use Rattle.lwk_side.proofs.trap_local.raises.Goals as goal
 use Rattle.lwk_views.proofs.Doing.{did_alone}
 use Rattle.std.proofs.Common.{ap, ◌∙◌}

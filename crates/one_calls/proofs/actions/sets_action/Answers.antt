@@ -1,7 +1,7 @@
 use Rattle.isa_model.specs.Memory.{write_bytes}
 use Rattle.kernel_model.specs.Nodes.{action_of, answered, process_of}
 use Rattle.kernel_model.specs.SignalCalls.{action_bytes}
-use Rattle.lwk_node.specs.Shown.{node_of}
+use Rattle.kernel_tables.specs.Shown.{node_of}
 use Rattle.one_calls.proofs.Acting.{sets_action-node, sets_action-stored}
 use Rattle.one_calls.specs.SignalWords.{given_action}
 use Rattle.std.proofs.Common.{ap, pos, sym, ◌∙◌}

@@ -1,5 +1,5 @@
 use Rattle.kernel_model.specs.Nodes.{answered}
-use Rattle.lwk_node.specs.Shown.{node_of}
+use Rattle.kernel_tables.specs.Shown.{node_of}
 use Rattle.one_calls.proofs.Begun.{clones-node, clones-stored}
 use Rattle.one_calls.specs.Words.{told}
 use Rattle.std.proofs.Common.{ap, pos, rules, slice_index, sym, to_z, w64, ◌≡◌, ◌∙◌}

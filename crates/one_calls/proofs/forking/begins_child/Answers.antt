@@ -1,7 +1,7 @@
 use Rattle.file_model.specs.Files.{share}
 use Rattle.kernel_model.specs.CloneCalls.{with_child}
 use Rattle.kernel_model.specs.Nodes.{answered, thread_of}
-use Rattle.lwk_node.specs.Shown.{node_of}
+use Rattle.kernel_tables.specs.Shown.{node_of}
 use Rattle.one_calls.proofs.Begun.{begins-node, begins-stored}
 use Rattle.one_calls.proofs.forking.begins_child.Goals as goal
 use Rattle.one_calls.specs.Words.{told}

@@ -5,7 +5,7 @@ use Rattle.kernel_model.specs.Nodes.{Node as KernelNode, thread_of}
 use Rattle.kernel_model.specs.Signals.{View, stored_all, view}
 use Rattle.kernel_model.specs.Steps.{one_trapped, one_view}
 use Rattle.kernel_model.specs.Traps.{Forks, past_ecall}
-use Rattle.lwk_node.specs.Shown.{node_of}
+use Rattle.kernel_tables.specs.Shown.{node_of}
 use Rattle.mck_word.specs.Maps.{count}
 use Rattle.mck_word.specs.declared.Access.TheVariants.{Write}
 use Rattle.one_calls.proofs.Behind.{may-fork, process-kept}

@@ -1,6 +1,6 @@
 use Rattle.kernel_model.specs.Nodes.{Node as KernelNode, answered}
 use Rattle.kernel_model.specs.Signals.{view}
-use Rattle.lwk_node.specs.Shown.{node_of}
+use Rattle.kernel_tables.specs.Shown.{node_of}
 use Rattle.one_calls.proofs.forks.refuses_fork.Goals as goal
 use Rattle.std.proofs.Common.{ap, of_z, rules, to_z, w64, ◌∙◌, ◌≡◌}
 

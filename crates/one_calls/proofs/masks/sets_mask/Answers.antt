@@ -1,6 +1,6 @@
 use Rattle.isa_model.specs.Memory.{write_bytes}
 use Rattle.kernel_model.specs.Nodes.{answered}
-use Rattle.lwk_node.specs.Shown.{node_of}
+use Rattle.kernel_tables.specs.Shown.{node_of}
 use Rattle.mck_word.specs.Words.{little_endian}
 use Rattle.one_calls.proofs.Acting.{sets_mask-node, sets_mask-stored}
 use Rattle.one_calls.specs.SignalWords.{given_mask}

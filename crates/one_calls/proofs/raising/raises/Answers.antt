@@ -1,5 +1,5 @@
 use Rattle.kernel_model.specs.Signals.{raised, view}
-use Rattle.lwk_node.specs.Shown.{node_of}
+use Rattle.kernel_tables.specs.Shown.{node_of}
 use Rattle.one_calls.proofs.raising.raises.Goals as goal
 use Rattle.std.proofs.Common.{ap, ◌∙◌}
 

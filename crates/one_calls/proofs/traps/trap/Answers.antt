@@ -1,6 +1,6 @@
 use Rattle.kernel_model.specs.Nodes.{stop_in, thread_of}
 use Rattle.kernel_model.specs.declared.Does.{Does}
-use Rattle.lwk_node.specs.Shown.{node_of}
+use Rattle.kernel_tables.specs.Shown.{node_of}
 use Rattle.one_calls.proofs.Trapping.{after-stop}
 use Rattle.one_calls.proofs.traps.trap.Goals as goal
 use Rattle.one_calls.specs.Here.{here}

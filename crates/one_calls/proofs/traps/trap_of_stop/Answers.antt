@@ -6,7 +6,7 @@ use Rattle.kernel_model.specs.Plans.{plan}
 use Rattle.kernel_model.specs.Signals.{on_node, raised, signal_of_stop}
 use Rattle.kernel_model.specs.Steps.{one_trapped, one_view}
 use Rattle.kernel_model.specs.Traps.{Trapped, arguments_of, past_ecall, planned, trap_of_stop}
-use Rattle.lwk_node.specs.Shown.{node_of}
+use Rattle.kernel_tables.specs.Shown.{node_of}
 use Rattle.mck_word.specs.declared.Regs.{Regs}
 use Rattle.one_calls.proofs.Trapping.{alone-here, raises-signal}
 use Rattle.one_calls.proofs.traps.trap_of_stop.Goals as goal

@@ -4,7 +4,7 @@ use Rattle.kernel_model.specs.Nodes.{Node, process_of}
 use Rattle.kernel_model.specs.OneKernel.{OneHere}
 use Rattle.kernel_model.specs.Steps.{one_trapped, one_view, with_node}
 use Rattle.kernel_model.specs.Traps.{arguments_of, decided}
-use Rattle.lwk_node.specs.Shown.{node_of}
+use Rattle.kernel_tables.specs.Shown.{node_of}
 use Rattle.one_calls.specs.Here.{here}
 use Rattle.one_kernel.proofs.MemoryTraps.{memory-call-is}
 use Rattle.one_kernel.proofs.changing.calls_for_memory.Goals as goal

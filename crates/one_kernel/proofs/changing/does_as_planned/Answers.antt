@@ -1,5 +1,5 @@
 use Rattle.kernel_model.specs.Nodes.{process_of}
-use Rattle.lwk_node.specs.Shown.{node_of}
+use Rattle.kernel_tables.specs.Shown.{node_of}
 use Rattle.one_kernel.proofs.changing.does_as_planned.Goals as goal
 use Rattle.one_kernel.specs.Due.{HasRoomFor, at_once}
 use Rattle.std.proofs.Common.{subst}

@@ -1,7 +1,7 @@
 use Rattle.one_kernel.proofs.summary.ends.Goals as goal
 use Rattle.hybrid_laws.proofs.memory.Written.{each-entry}
 use Rattle.hybrid_model.specs.Tallies.{Each}
-use Rattle.lwk_node.specs.declared.process_rows.Process.{Process}
+use Rattle.kernel_tables.specs.declared.process_rows.Process.{Process}
 use Rattle.mck_word.specs.Maps.{at}
 use Rattle.one_kernel.proofs.Summed.{ends-all}
 use Rattle.one_kernel.specs.Summed.{end_at}

@@ -1,5 +1,5 @@
 use Rattle.hybrid_model.specs.Tallies.{Each}
-use Rattle.lwk_node.specs.declared.process_rows.Process.{Process}
+use Rattle.kernel_tables.specs.declared.process_rows.Process.{Process}
 use Rattle.mck_word.specs.Maps.{at, entries}
 use Rattle.one_kernel.proofs.summary.ends.Given as goal
 use Rattle.one_kernel.specs.Summed.{end_at}

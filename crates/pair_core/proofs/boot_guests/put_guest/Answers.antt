@@ -1,6 +1,6 @@
 use Rattle.kernel_model.specs.Layout.{guest_regs}
 use Rattle.kernel_model.specs.Nodes.{Node, threads_of}
-use Rattle.lwk_node.specs.Shown.{node_of, shown_process}
+use Rattle.kernel_tables.specs.Shown.{node_of, shown_process}
 use Rattle.pair_core.proofs.BootNode.{alone, guest-more}
 use Rattle.pair_core.proofs.boot_guests.put_guest.Goals as goal
 use Rattle.pair_core.specs.Booting.{guest_at}

@@ -1,8 +1,8 @@
 use Rattle.frame_pool.specs.Pools.{Pool}
 use Rattle.kernel_model.specs.Nodes.{Node}
 use Rattle.kernel_model.specs.Pages.{zero_page}
-use Rattle.lwk_node.specs.Shown.{node_of}
-use Rattle.lwk_tables.specs.Frames.{frames_map}
+use Rattle.kernel_tables.specs.Shown.{node_of}
+use Rattle.lwk_space.specs.Frames.{frames_map}
 use Rattle.pair_core.proofs.BootFolds.{zero-frames}
 use Rattle.pair_core.proofs.booting.boot_lwk.Goals as goal
 use Rattle.std.proofs.Common.{ap, length, sym, ◌∙◌}

@@ -1,5 +1,5 @@
 use Rattle.kernel_model.specs.OneKernel.{boot_files}
-use Rattle.lwk_node.specs.Shown.{node_of}
+use Rattle.kernel_tables.specs.Shown.{node_of}
 use Rattle.pair_core.proofs.booting.boot_node.Goals as goal
 
 pub returns : goal.returns

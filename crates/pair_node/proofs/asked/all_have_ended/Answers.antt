@@ -1,5 +1,5 @@
 use Rattle.kernel_model.specs.Nodes.{has_ended}
-use Rattle.lwk_node.specs.declared.process_rows.Process.{Process}
+use Rattle.kernel_tables.specs.declared.process_rows.Process.{Process}
 use Rattle.pair_node.proofs.Shows.{all-ended}
 use Rattle.pair_node.proofs.asked.all_have_ended.Goals as goal
 use Rattle.std.proofs.Common.{ap, sym, ◌∙◌}

@@ -1,4 +1,4 @@
-use Rattle.lwk_node.specs.declared.script_lines.ScriptLine.{ScriptLine}
+use Rattle.kernel_tables.specs.declared.script_lines.ScriptLine.{ScriptLine}
 use Rattle.pair_node.proofs.Shows.{unsent-at}
 use Rattle.pair_node.proofs.asked.unsent.Goals as goal
 use Rattle.std.proofs.Common.{ap, sym, ◌∙◌}

@@ -1,8 +1,8 @@
 use Rattle.pair_node.proofs.booting.numbers.Goals as goal
 use Rattle.hybrid_laws.proofs.memory.Written.{each-entry}
 use Rattle.hybrid_model.specs.Tallies.{Each}
-use Rattle.lwk_node.specs.Shown.{node_of, shown_process}
-use Rattle.lwk_node.specs.declared.process_rows.Process.{Process}
+use Rattle.kernel_tables.specs.Shown.{node_of, shown_process}
+use Rattle.kernel_tables.specs.declared.process_rows.Process.{Process}
 use Rattle.mck_word.specs.EachLaws.{at-each}
 use Rattle.mck_word.specs.Maps.{at, each}
 use Rattle.mck_word.specs.declared.Pid.{Pid}

@@ -1,5 +1,5 @@
 use Rattle.hybrid_model.specs.Tallies.{Each}
-use Rattle.lwk_node.specs.declared.process_rows.Process.{Process}
+use Rattle.kernel_tables.specs.declared.process_rows.Process.{Process}
 use Rattle.mck_word.specs.Maps.{at, keys}
 use Rattle.mck_word.specs.declared.Pid.{Pid}
 use Rattle.pair_node.proofs.booting.numbers.Given as goal

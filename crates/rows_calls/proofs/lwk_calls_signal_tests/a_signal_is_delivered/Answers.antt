@@ -1,4 +1,4 @@
-use Rattle.lwk_tables.specs.Rows.{FramesIn}
+use Rattle.lwk_space.specs.Rows.{FramesIn}
 use Rattle.lwk_views.proofs.Reading.{frames_in}
 use Rattle.std.proofs.Common.{rules}
 use Rattle.rows_calls.proofs.lwk_calls_signal_tests.a_signal_is_delivered.Goals as goal

@@ -1,4 +1,4 @@
-use Rattle.lwk_tables.specs.Rows.{AbsentIn}
+use Rattle.lwk_space.specs.Rows.{AbsentIn}
 use Rattle.rows_spaces.proofs.checks.all_absent.Given as goal
 
 -- so far

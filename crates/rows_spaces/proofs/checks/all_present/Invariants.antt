@@ -1,4 +1,4 @@
-use Rattle.lwk_tables.specs.Rows.{PresentIn}
+use Rattle.lwk_space.specs.Rows.{PresentIn}
 use Rattle.rows_spaces.proofs.checks.all_present.Given as goal
 
 -- so far

@@ -1,5 +1,5 @@
 use Rattle.lwk_run.proofs.Stored.{frame-fits, page-stored}
-use Rattle.lwk_tables.specs.Lacks.{memory}
+use Rattle.lwk_space.specs.Lacks.{memory}
 use Rattle.std.proofs.Common.{rules, ap, ◌∙◌, ◌<◌, ◌^◌}
 use Rattle.lwk_run.proofs.pages.UserPagesPageMem.set_some.Goals as goal
 

@@ -4,12 +4,12 @@ use Rattle.hybrid_model.specs.Pairs.{with_node}
 use Rattle.kernel_model.specs.MemoryCalls.{Decision, decide}
 use Rattle.kernel_model.specs.Nodes.{Node, process_of}
 use Rattle.kernel_model.specs.Traps.{Trapped, decided, past_ecall}
-use Rattle.lwk_node.specs.Shown.{node_of}
+use Rattle.kernel_tables.specs.Shown.{node_of}
 use Rattle.lwk_side.proofs.Changing.{decided-ahead, decided-room, decision_of, memory-call-by, memory-call-is}
 use Rattle.lwk_side.proofs.kernel.Lwk.calls_for_memory.Goals as goal
 use Rattle.lwk_side.specs.Changing.{HasDecidedRoom, HasTrappedRoom}
 use Rattle.lwk_side.specs.Shown.{here_of}
-use Rattle.lwk_tables.specs.Lacks.{memory}
+use Rattle.lwk_space.specs.Lacks.{memory}
 use Rattle.lwk_views.specs.Views.{seen}
 use Rattle.std.proofs.Common.{ap, subst, sym, ◌∙◌, ◌≡◌}
 use Rattle.std.specs.Prelude.{length}

@@ -1,9 +1,9 @@
 use Rattle.file_model.specs.Files.{root_only}
 use Rattle.kernel_model.specs.MemoryCalls.{refusal_at_end}
 use Rattle.kernel_model.specs.Nodes.{process_of}
-use Rattle.lwk_node.specs.Shown.{node_of}
+use Rattle.kernel_tables.specs.Shown.{node_of}
 use Rattle.lwk_side.proofs.kernel.Lwk.decides_at_end.Goals as goal
-use Rattle.lwk_tables.specs.Lacks.{memory}
+use Rattle.lwk_space.specs.Lacks.{memory}
 use Rattle.std.proofs.Common.{ap, arith, refl, ◌∙◌}
 use Rattle.std.specs.Prelude.{ℕ}
 

@@ -5,12 +5,12 @@ use Rattle.kernel_model.specs.Nodes.{answered, process_of, set_does}
 use Rattle.kernel_model.specs.Signals.{on_node}
 use Rattle.kernel_model.specs.Traps.{decided}
 use Rattle.kernel_model.specs.declared.Does.TheVariants.{InVm}
-use Rattle.lwk_node.specs.Shown.{node_of}
+use Rattle.kernel_tables.specs.Shown.{node_of}
 use Rattle.lwk_side.proofs.Viewing.{did-is}
 use Rattle.lwk_side.proofs.kernel.Lwk.does_as_planned.Goals as goal
 use Rattle.lwk_side.specs.Changing.{HasDecidedRoom, IsAhead}
 use Rattle.lwk_side.specs.Shown.{here_of}
-use Rattle.lwk_tables.specs.Lacks.{memory}
+use Rattle.lwk_space.specs.Lacks.{memory}
 use Rattle.lwk_views.proofs.Doing.{did_alone}
 use Rattle.std.proofs.Common.{ap, of_z, rules, subst, sym, to_z, w64, ◌∙◌, ◌≡◌}
 use Rattle.std.specs.Prelude.{length}

@@ -3,11 +3,11 @@ use Rattle.hybrid_model.specs.Pairs.{with_node}
 use Rattle.kernel_model.specs.Nodes.{process_of}
 use Rattle.kernel_model.specs.Traps.{finishes}
 use Rattle.lwk_changes.specs.GoAhead.{ahead-at-end}
-use Rattle.lwk_node.specs.Shown.{node_of}
+use Rattle.kernel_tables.specs.Shown.{node_of}
 use Rattle.lwk_side.proofs.kernel.Lwk.ends_change.Goals as goal
 use Rattle.lwk_side.specs.Changing.{HasEndRoom}
 use Rattle.lwk_side.specs.Shown.{here_of}
-use Rattle.lwk_tables.specs.Lacks.{memory}
+use Rattle.lwk_space.specs.Lacks.{memory}
 use Rattle.std.proofs.Common.{ap, of_z, rules, subst, sym, to_z, w64, ◌∙◌, ◌≡◌}
 use Rattle.std.specs.Prelude.{Option, length, ℤ}
 

@@ -6,7 +6,7 @@ use Rattle.kernel_model.specs.LocalCalls.{answers}
 use Rattle.kernel_model.specs.Nodes.{thread_of}
 use Rattle.kernel_model.specs.Traps.{arguments_of, cloned, past_ecall}
 use Rattle.lwk_calls.specs.Forks.{fork_refusal}
-use Rattle.lwk_node.specs.Shown.{node_of}
+use Rattle.kernel_tables.specs.Shown.{node_of}
 use Rattle.lwk_side.proofs.Born.{count-memory, enough-free, fork-goes, fork-refused, fork-trap}
 use Rattle.lwk_side.proofs.kernel.Lwk.fork.Goals as goal
 use Rattle.lwk_side.specs.Forked.{born_side}

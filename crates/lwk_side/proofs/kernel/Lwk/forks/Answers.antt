@@ -8,16 +8,16 @@ use Rattle.kernel_model.specs.Nodes.{Node as KernelNode, has_process, thread_of}
 use Rattle.kernel_model.specs.Signals.{View, stored_all, view}
 use Rattle.kernel_model.specs.Traps.{Forks, past_ecall}
 use Rattle.lwk_calls.specs.Forks.{begins_child}
-use Rattle.lwk_node.specs.Shown.{node_of}
+use Rattle.kernel_tables.specs.Shown.{node_of}
 use Rattle.lwk_side.proofs.Behind.{process-kept}
 use Rattle.lwk_side.proofs.Born.{child-told, copied-apart, copied-shown, count-memory, fork-here}
 use Rattle.lwk_side.proofs.Cloned.{may-clone}
 use Rattle.lwk_side.proofs.kernel.Lwk.forks.Goals as goal
 use Rattle.lwk_side.specs.Shown.{here_of}
-use Rattle.lwk_tables.proofs.WrittenBack.{written-back}
-use Rattle.lwk_tables.specs.Frames.{frames_map}
-use Rattle.lwk_tables.specs.Lacks.{memory}
-use Rattle.lwk_tables.specs.Rows.{FramesApart}
+use Rattle.lwk_space.proofs.WrittenBack.{written-back}
+use Rattle.lwk_space.specs.Frames.{frames_map}
+use Rattle.lwk_space.specs.Lacks.{memory}
+use Rattle.lwk_space.specs.Rows.{FramesApart}
 use Rattle.lwk_views.proofs.Reading.{frames_in, may_any}
 use Rattle.mck_word.specs.Maps.{entries}
 use Rattle.mck_word.specs.declared.Access.TheVariants.{Write}

@@ -2,9 +2,9 @@ use Rattle.lwk_side.proofs.kernel.Lwk.make_ack_room.Goals as goal
 use Rattle.file_model.specs.Files.{root_only}
 use Rattle.kernel_model.specs.Nodes.{change_in, process_of, thread_of}
 use Rattle.kernel_model.specs.declared.Change.{Change}
-use Rattle.lwk_node.specs.Shown.{node_of}
+use Rattle.kernel_tables.specs.Shown.{node_of}
 use Rattle.lwk_side.specs.Changing.{HasAckRoom}
-use Rattle.lwk_tables.specs.Lacks.{memory}
+use Rattle.lwk_space.specs.Lacks.{memory}
 use Rattle.offer_laws.proofs.ChangeFits.{wanted-fits}
 use Rattle.std.proofs.Common.{ap, subst, sym, ◌∙◌}
 use Rattle.std.proofs.lemmas.Result.{on_ok_weaker}

@@ -2,11 +2,11 @@ use Rattle.kernel_model.specs.MemoryCalls.{Decision, decide}
 use Rattle.kernel_model.specs.Nodes.{process_of}
 use Rattle.kernel_model.specs.Plans as plans
 use Rattle.kernel_model.specs.Traps.{Trapped, past_ecall, planned}
-use Rattle.lwk_node.specs.Shown.{node_of}
+use Rattle.kernel_tables.specs.Shown.{node_of}
 use Rattle.lwk_side.proofs.Changing.{call-room}
 use Rattle.lwk_side.proofs.kernel.Lwk.make_call_room.Goals as goal
 use Rattle.lwk_side.specs.Changing.{HasDecidedRoom, HasTrappedRoom, memory_call}
-use Rattle.lwk_tables.specs.Lacks.{memory}
+use Rattle.lwk_space.specs.Lacks.{memory}
 use Rattle.lwk_views.specs.Views.{seen}
 use Rattle.mck_word.specs.Maps.{Map}
 use Rattle.hybrid_model.specs.Sides.{Row}

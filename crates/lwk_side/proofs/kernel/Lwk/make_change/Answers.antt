@@ -1,7 +1,7 @@
 use Rattle.file_model.specs.Files.{root_only}
 use Rattle.lwk_changes.specs.Conditions.{GoesAhead, HasRoomFor}
 use Rattle.lwk_side.proofs.kernel.Lwk.make_change.Goals as goal
-use Rattle.lwk_tables.specs.Lacks.{memory}
+use Rattle.lwk_space.specs.Lacks.{memory}
 use Rattle.std.proofs.Common.{subst, sym}
 use Rattle.std.specs.Prelude.{length, ℕ}
 

@@ -1,5 +1,5 @@
 use Rattle.kernel_model.specs.Nodes.{process_of}
-use Rattle.lwk_node.specs.Shown.{node_of}
+use Rattle.kernel_tables.specs.Shown.{node_of}
 use Rattle.lwk_side.proofs.kernel.Lwk.make_end_room.Goals as goal
 use Rattle.lwk_side.specs.Changing.{HasEndRoom}
 use Rattle.std.proofs.Common.{subst}

@@ -2,7 +2,7 @@ use Rattle.hybrid_model.specs.Rings.{post}
 use Rattle.ikc_ring.specs.declared.Msg.TheVariants.{Interrupt}
 use Rattle.lwk_side.proofs.kernel.Lwk.mark.Goals as goal
 use Rattle.lwk_side.specs.Shown.{shown_caller}
-use Rattle.lwk_tables.specs.Frames.{frames_map}
+use Rattle.lwk_space.specs.Frames.{frames_map}
 use Rattle.mck_word.specs.EachLaws.{each-put}
 use Rattle.mck_word.specs.Maps.{each}
 use Rattle.std.proofs.Common.{ap, ◌∙◌}

@@ -2,8 +2,8 @@ use Rattle.file_model.specs.Files.{root_only}
 use Rattle.lwk_side.proofs.kernel.Lwk.plans_memory_call.Goals as goal
 use Rattle.kernel_model.specs.MemoryCalls.{decide}
 use Rattle.kernel_model.specs.Nodes.{process_of}
-use Rattle.lwk_node.specs.Shown.{node_of}
-use Rattle.lwk_tables.specs.Lacks.{memory}
+use Rattle.kernel_tables.specs.Shown.{node_of}
+use Rattle.lwk_space.specs.Lacks.{memory}
 use Rattle.std.proofs.Common.{ap, arith, refl, ◌∙◌}
 use Rattle.std.specs.Prelude.{ℕ}
 

@@ -4,7 +4,7 @@ use Rattle.kernel_model.specs.Traps.{past_ecall}
 use Rattle.lwk_side.proofs.Behind.{behind, did-after}
 use Rattle.lwk_side.proofs.Viewing.{did-is}
 use Rattle.lwk_side.proofs.kernel.Lwk.refuses_fork.Goals as goal
-use Rattle.lwk_node.specs.Shown.{node_of}
+use Rattle.kernel_tables.specs.Shown.{node_of}
 use Rattle.lwk_views.proofs.Doing.{did_alone}
 use Rattle.std.proofs.Common.{ap, of_z, rules, to_z, w64, ◌∙◌, ◌≡◌}
 

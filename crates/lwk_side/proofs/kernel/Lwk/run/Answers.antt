@@ -1,13 +1,13 @@
 use Rattle.isa_model.specs.Instr.{Outcome}
 use Rattle.kernel_model.specs.Nodes.{no_thread, thread_of}
-use Rattle.lwk_node.specs.Shown.{node_of}
-use Rattle.lwk_node.specs.Steps.{ran_over}
+use Rattle.kernel_tables.specs.Shown.{node_of}
+use Rattle.kernel_tables.specs.Steps.{ran_over}
 use Rattle.lwk_run.specs.Counts.{executed_count}
 use Rattle.lwk_side.proofs.Calling.{there}
 use Rattle.lwk_side.proofs.kernel.Lwk.run.Goals as goal
 use Rattle.lwk_side.specs.Shown.{here_of, side_of}
-use Rattle.lwk_tables.specs.Frames.{frames_map}
-use Rattle.lwk_tables.specs.Lacks.{memory}
+use Rattle.lwk_space.specs.Frames.{frames_map}
+use Rattle.lwk_space.specs.Lacks.{memory}
 use Rattle.mck_word.specs.Maps.{at, put}
 use Rattle.rv64i_user.specs.Runs.{instrs}
 use Rattle.std.proofs.Common.{ap, refl, sym, ◌∙◌}

@@ -6,7 +6,7 @@ use Rattle.hybrid_model.specs.Rings.{rest_of}
 use Rattle.kernel_model.specs.Nodes.{change_in}
 use Rattle.kernel_model.specs.declared.Change.{Change}
 use Rattle.kernel_model.specs.declared.Does.{Does}
-use Rattle.lwk_node.specs.Shown.{node_of}
+use Rattle.kernel_tables.specs.Shown.{node_of}
 use Rattle.lwk_side.proofs.Acked.{ack-is, no-change, over-is}
 use Rattle.lwk_side.specs.Shown.{here_of}
 use Rattle.offer_laws.proofs.ChangeFits.{wanted-fits}

@@ -6,7 +6,7 @@ use Rattle.isa_model.specs.declared.stops.Stop.{Stop}
 use Rattle.kernel_model.specs.Nodes.{thread_of}
 use Rattle.kernel_model.specs.Plans.{plan}
 use Rattle.kernel_model.specs.Traps.{Trapped, arguments_of, past_ecall, planned, trap_of_stop}
-use Rattle.lwk_node.specs.Shown.{node_of}
+use Rattle.kernel_tables.specs.Shown.{node_of}
 use Rattle.lwk_side.proofs.Planned.{raises-signal}
 use Rattle.lwk_side.proofs.kernel.Lwk.trap_of_stop.Goals as goal
 use Rattle.lwk_side.specs.Begins.{begins_at, names_delegated}

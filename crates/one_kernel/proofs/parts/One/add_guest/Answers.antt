@@ -1,7 +1,7 @@
 use Rattle.job_boot.proofs.Nodes.{any-files}
 use Rattle.job_boot.specs.Guests.{IsBefore, begun, guest_at}
 use Rattle.kernel_model.specs.Layout.{guest_regs}
-use Rattle.lwk_node.specs.Shown.{node_of}
+use Rattle.kernel_tables.specs.Shown.{node_of}
 use Rattle.mck_word.specs.EachLaws.{each-put}
 use Rattle.mck_word.specs.Maps.{Map, each, put}
 use Rattle.one_files.specs.Seen.{seen}

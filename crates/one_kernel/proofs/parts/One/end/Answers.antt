@@ -1,7 +1,7 @@
 use Rattle.isa_model.specs.Memory.{Page}
 use Rattle.key_rows.specs.Table.{Table}
 use Rattle.kernel_model.specs.declared.steps.Step.TheVariants.{End}
-use Rattle.lwk_node.specs.Shown.{node_of}
+use Rattle.kernel_tables.specs.Shown.{node_of}
 use Rattle.mck_word.specs.EachLaws.{at-each, each-none}
 use Rattle.mck_word.specs.Maps.{each}
 use Rattle.one_files.specs.Seen.{seen}

@@ -4,8 +4,8 @@ use Rattle.key_rows.specs.Table.{Table}
 use Rattle.kernel_model.specs.Nodes.{thread_of}
 use Rattle.kernel_model.specs.Steps.{after_all}
 use Rattle.kernel_model.specs.declared.steps.Step.TheVariants.{Instr}
-use Rattle.lwk_node.specs.Shown.{node_of}
-use Rattle.lwk_node.specs.Steps.{ran_over}
+use Rattle.kernel_tables.specs.Shown.{node_of}
+use Rattle.kernel_tables.specs.Steps.{ran_over}
 use Rattle.one_files.specs.Seen.{seen}
 use Rattle.one_kernel.proofs.After.{process-is, regs-is}
 use Rattle.one_kernel.proofs.Executing.{has-own, leaves, runs}

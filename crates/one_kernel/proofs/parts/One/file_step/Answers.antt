@@ -6,7 +6,7 @@ use Rattle.one_kernel.proofs.parts.One.file_step.Goals as goal
 use Rattle.one_kernel.specs.Parts.{here_in, one_of}
 use Rattle.mck_word.specs.Maps.{at}
 use Rattle.std.proofs.Common.{ap, refl, ◌∙◌}
-use Rattle.lwk_node.specs.Shown.{node_of}
+use Rattle.kernel_tables.specs.Shown.{node_of}
 use Rattle.one_files.specs.Seen.{seen}
 use Rattle.one_kernel.proofs.Facts.{few-held}
 

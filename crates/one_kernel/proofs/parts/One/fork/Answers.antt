@@ -1,7 +1,7 @@
 use Rattle.kernel_model.specs.Steps.{one_trap}
 use Rattle.kernel_model.specs.declared.steps.Step.TheVariants.{Trap}
 use Rattle.key_rows.specs.Table.{Table}
-use Rattle.lwk_node.specs.Shown.{node_of}
+use Rattle.kernel_tables.specs.Shown.{node_of}
 use Rattle.mck_word.specs.Maps.{at, count, put}
 use Rattle.mck_word.specs.declared.Pid.{Pid}
 use Rattle.one_calls.specs.Here.{here_with}

@@ -8,7 +8,7 @@ use Rattle.std.proofs.Common.{ap, refl, sym, ◌∙◌}
 use Rattle.kernel_model.specs.Progress.{interrupted_answer, is_not_ready, next_kind}
 use Rattle.kernel_model.specs.Steps.{call_at, has_call, interrupted_as, is_active}
 use Rattle.std.specs.Prelude.{◌&&◌}
-use Rattle.lwk_node.specs.Shown.{node_of}
+use Rattle.kernel_tables.specs.Shown.{node_of}
 use Rattle.one_files.specs.Seen.{seen}
 use Rattle.one_kernel.proofs.Interrupts.{has-call-is, not-back-in, or-first, own-interrupted}
 use Rattle.one_kernel.specs.declared.calls.Standing.TheVariants.{Over}

@@ -1,5 +1,5 @@
 use Rattle.call_progress.specs.Streams.{HasRoomForStep}
-use Rattle.lwk_node.specs.Shown.{node_of}
+use Rattle.kernel_tables.specs.Shown.{node_of}
 use Rattle.one_files.specs.Seen.{can_write_of, room_of, seen}
 use Rattle.one_kernel.proofs.MadeRoom.{no-call, of-call, same-row, same-state}
 use Rattle.one_kernel.proofs.parts.One.make_file_room.Goals as goal

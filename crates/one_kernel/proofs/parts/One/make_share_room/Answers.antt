@@ -1,5 +1,5 @@
 use Rattle.file_model.specs.Files.{Files}
-use Rattle.lwk_node.specs.Shown.{node_of}
+use Rattle.kernel_tables.specs.Shown.{node_of}
 use Rattle.one_kernel.proofs.parts.One.make_share_room.Goals as goal
 use Rattle.one_kernel.specs.Parts.{one_of}
 use Rattle.std.proofs.Common.{ap}

@@ -5,7 +5,7 @@ use Rattle.one_kernel.proofs.Stepping.{marks, own-with}
 use Rattle.one_kernel.proofs.parts.One.mark.Goals as goal
 use Rattle.one_kernel.specs.Parts.{here_in}
 use Rattle.std.proofs.Common.{refl, ◌∙◌}
-use Rattle.lwk_node.specs.Shown.{node_of}
+use Rattle.kernel_tables.specs.Shown.{node_of}
 use Rattle.one_files.specs.Seen.{seen}
 use Rattle.std.specs.Prelude.{true}
 

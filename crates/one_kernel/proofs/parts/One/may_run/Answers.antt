@@ -1,5 +1,5 @@
 use Rattle.kernel_model.specs.Nodes.{instructions_in_all}
-use Rattle.lwk_node.specs.Shown.{node_of}
+use Rattle.kernel_tables.specs.Shown.{node_of}
 use Rattle.one_files.specs.Seen.{seen}
 use Rattle.one_kernel.proofs.parts.One.may_run.Goals as goal
 use Rattle.one_kernel.specs.Parts.{one_of}

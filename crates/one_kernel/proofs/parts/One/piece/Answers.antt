@@ -8,7 +8,7 @@ use Rattle.std.proofs.Common.{ap, refl, ◌∙◌}
 use Rattle.isa_model.specs.Memory.{allows_in}
 use Rattle.kernel_model.specs.Progress.{needed_access}
 use Rattle.kernel_model.specs.Steps.{with_page}
-use Rattle.lwk_node.specs.Shown.{node_of}
+use Rattle.kernel_tables.specs.Shown.{node_of}
 use Rattle.mck_word.specs.Maps.{at}
 use Rattle.mck_word.specs.declared.parts.Piece.{Piece as Part}
 use Rattle.one_files.specs.Seen.{seen}

@@ -6,7 +6,7 @@ use Rattle.one_kernel.proofs.parts.One.piece_fault.Goals as goal
 use Rattle.one_kernel.specs.Parts.{here_in}
 use Rattle.std.proofs.Common.{ap, refl, ◌∙◌}
 use Rattle.kernel_model.specs.Progress.{fault_answer}
-use Rattle.lwk_node.specs.Shown.{node_of}
+use Rattle.kernel_tables.specs.Shown.{node_of}
 use Rattle.one_files.specs.Seen.{seen}
 use Rattle.one_kernel.specs.declared.calls.Standing.TheVariants.{Over}
 use Rattle.std.proofs.Common.{of_z, rules, to_z, w64, ◌≡◌}

@@ -1,5 +1,5 @@
-use Rattle.lwk_node.specs.Shown.{node_of}
-use Rattle.lwk_node.specs.declared.script_lines.ScriptLine.{ScriptLine}
+use Rattle.kernel_tables.specs.Shown.{node_of}
+use Rattle.kernel_tables.specs.declared.script_lines.ScriptLine.{ScriptLine}
 use Rattle.one_files.specs.Seen.{seen}
 use Rattle.one_kernel.proofs.Summed.{ends-are, lines-are}
 use Rattle.one_kernel.proofs.parts.One.summary.Goals as goal

@@ -1,5 +1,5 @@
 use Rattle.kernel_model.specs.declared.steps.Step.TheVariants.{Trap}
-use Rattle.lwk_node.specs.Shown.{node_of}
+use Rattle.kernel_tables.specs.Shown.{node_of}
 use Rattle.one_kernel.proofs.After.{after-is, process-is}
 use Rattle.one_kernel.proofs.Calling.{both}
 use Rattle.one_kernel.proofs.Sleepers.{may-clone, may-rest}

@@ -1,5 +1,5 @@
 use Rattle.key_rows.specs.Table.{Table}
-use Rattle.lwk_node.specs.Shown.{node_of}
+use Rattle.kernel_tables.specs.Shown.{node_of}
 use Rattle.mck_word.specs.EachLaws.{each-none}
 use Rattle.mck_word.specs.Maps.{each}
 use Rattle.one_kernel.specs.Parts.{one_of, shown_own}

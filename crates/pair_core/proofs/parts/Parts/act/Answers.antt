@@ -7,7 +7,7 @@ use Rattle.hybrid_model.specs.Act.{may_act}
 use Rattle.hybrid_model.specs.Pairs.{Here}
 use Rattle.hybrid_model.specs.declared.events.Event.TheVariants.{Act}
 use Rattle.kernel_model.specs.Nodes.{set_files}
-use Rattle.lwk_node.specs.Shown.{node_of}
+use Rattle.kernel_tables.specs.Shown.{node_of}
 use Rattle.pair_core.proofs.Facts.{few-held, finds, kept-put}
 use Rattle.pair_core.proofs.Found.{after-is, has-row}
 use Rattle.pair_core.proofs.Linux.{held-served}

@@ -2,7 +2,7 @@ use Rattle.hybrid_model.specs.Answer.{files_after_answer, post_answer}
 use Rattle.hybrid_model.specs.Pairs.{Here, ring_of, with_node, with_side}
 use Rattle.hybrid_model.specs.declared.events.Event.TheVariants.{Answer}
 use Rattle.hybrid_model.specs.Sides.{served}
-use Rattle.lwk_node.specs.Shown.{node_of}
+use Rattle.kernel_tables.specs.Shown.{node_of}
 use Rattle.lwk_side.specs.Wired.{HasPlace}
 use Rattle.pair_core.proofs.Found.{after-is, has-row, may-here}
 use Rattle.pair_core.proofs.KernelFacts.{kept-after, wired}

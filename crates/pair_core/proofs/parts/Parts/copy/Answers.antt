@@ -8,9 +8,9 @@ use Rattle.hybrid_model.specs.Sides.{no_pin}
 use Rattle.hybrid_model.specs.Spaces.{frame_bytes}
 use Rattle.hybrid_model.specs.declared.events.Event.TheVariants.{Copy}
 use Rattle.kernel_model.specs.Nodes.{set_files}
-use Rattle.lwk_node.specs.Shown.{node_of}
-use Rattle.lwk_tables.proofs.BytesRead.{frame-bytes}
-use Rattle.lwk_tables.proofs.OnePage.{frames-set}
+use Rattle.kernel_tables.specs.Shown.{node_of}
+use Rattle.lwk_space.proofs.BytesRead.{frame-bytes}
+use Rattle.lwk_space.proofs.OnePage.{frames-set}
 use Rattle.mck_word.specs.Maps.{at, put}
 use Rattle.pair_core.proofs.Copied.{next-page}
 use Rattle.pair_core.proofs.Facts.{finds, frame-below, kept-put}

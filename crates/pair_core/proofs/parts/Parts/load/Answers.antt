@@ -1,7 +1,7 @@
 use Rattle.hybrid_model.specs.Spaces.{copied_pages}
 use Rattle.kernel_model.specs.Layout.{guest_memory}
-use Rattle.lwk_node.specs.Shown.{node_of}
-use Rattle.lwk_tables.specs.Frames.{space}
+use Rattle.kernel_tables.specs.Shown.{node_of}
+use Rattle.lwk_space.specs.Frames.{space}
 use Rattle.mck_word.specs.EachLaws.{each-put}
 use Rattle.mck_word.specs.Maps.{Map, each, entries, no_rows, put}
 use Rattle.pair_core.proofs.BootFolds.{pair-more}

@@ -1,6 +1,6 @@
 use Rattle.hybrid_model.specs.Pairs.{Here}
 use Rattle.kernel_model.specs.Nodes.{set_files}
-use Rattle.lwk_node.specs.Shown.{node_of}
+use Rattle.kernel_tables.specs.Shown.{node_of}
 use Rattle.pair_core.proofs.Facts.{kept-put}
 use Rattle.pair_core.proofs.MadeRoom.{room-put, same-pair}
 use Rattle.pair_core.proofs.parts.Parts.make_act_room.Goals as goal

@@ -1,5 +1,5 @@
 use Rattle.kernel_model.specs.Nodes.{thread_of}
-use Rattle.lwk_node.specs.Shown.{node_of}
+use Rattle.kernel_tables.specs.Shown.{node_of}
 use Rattle.lwk_side.specs.declared.kernel.Lwk.{Lwk}
 use Rattle.mck_word.specs.Maps.{at}
 use Rattle.pair_core.proofs.parts.Parts.make_fork_room.Goals as goal

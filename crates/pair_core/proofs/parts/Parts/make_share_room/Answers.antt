@@ -1,4 +1,4 @@
-use Rattle.lwk_node.specs.Shown.{node_of}
+use Rattle.kernel_tables.specs.Shown.{node_of}
 use Rattle.pair_core.proofs.parts.Parts.make_share_room.Goals as goal
 use Rattle.pair_core.specs.Shown.{pair_of}
 

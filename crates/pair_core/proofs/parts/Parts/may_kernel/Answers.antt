@@ -1,7 +1,7 @@
 use Rattle.pair_core.proofs.parts.Parts.may_kernel.Goals as goal
 use Rattle.hybrid_laws.specs.EventKinds.{is_of_linux}
 use Rattle.hybrid_model.specs.Events.{may, may_here}
-use Rattle.lwk_node.specs.Shown.{node_of}
+use Rattle.kernel_tables.specs.Shown.{node_of}
 use Rattle.mck_word.specs.Maps.{at}
 use Rattle.pair_core.proofs.MayKernel.{kernel-nowhere, kernel-where, none-kernel}
 use Rattle.pair_core.proofs.MayLinux.{no-some}

@@ -4,7 +4,7 @@ use Rattle.hybrid_model.specs.Park.{park_here}
 use Rattle.hybrid_model.specs.Pairs.{Here}
 use Rattle.hybrid_model.specs.declared.events.Event.TheVariants.{Park}
 use Rattle.kernel_model.specs.Nodes.{set_files}
-use Rattle.lwk_node.specs.Shown.{node_of}
+use Rattle.kernel_tables.specs.Shown.{node_of}
 use Rattle.pair_core.proofs.Facts.{finds, kept-put}
 use Rattle.pair_core.proofs.Found.{after-is, has-row}
 use Rattle.pair_core.proofs.Linux.{held-holds}

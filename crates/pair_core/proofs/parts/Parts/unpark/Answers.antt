@@ -5,7 +5,7 @@ use Rattle.hybrid_model.specs.Workers.{is_parked}
 use Rattle.hybrid_model.specs.Pairs.{Here}
 use Rattle.hybrid_model.specs.Sides.{state_of}
 use Rattle.hybrid_model.specs.declared.events.Event.TheVariants.{Unpark}
-use Rattle.lwk_node.specs.Shown.{node_of}
+use Rattle.kernel_tables.specs.Shown.{node_of}
 use Rattle.pair_core.proofs.Facts.{finds, kept-put}
 use Rattle.pair_core.proofs.Found.{after-is, has-row}
 use Rattle.pair_core.specs.Shown.{here_in}

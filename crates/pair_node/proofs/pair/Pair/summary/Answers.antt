@@ -1,5 +1,5 @@
-use Rattle.lwk_node.specs.Shown.{node_of}
-use Rattle.lwk_node.specs.declared.script_lines.ScriptLine.{ScriptLine}
+use Rattle.kernel_tables.specs.Shown.{node_of}
+use Rattle.kernel_tables.specs.declared.script_lines.ScriptLine.{ScriptLine}
 use Rattle.pair_core.specs.Shown.{pair_of}
 use Rattle.pair_node.proofs.Summed.{ends-are, lines-are}
 use Rattle.pair_node.proofs.pair.Pair.summary.Goals as goal

@@ -1,0 +1,8 @@
+use Rattle.kernel_model.specs.Nodes.{Thread as KernelThread}
+use Rattle.kernel_model.specs.Signals.{handler_mask}
+use Rattle.kernel_tables.proofs.Rows.{thread_changed}
+use Rattle.std.proofs.Common.{refl}
+use Rattle.kernel_tables.proofs.tables.KernelTables.masks_handler.Goals as goal
+
+pub returns-clause-node : goal.returns-clause-node
+returns-clause-node c = λ files. thread_changed _ files _ c.args.t.0 _ (λ (x : KernelThread). record x { mask = handler_mask c.args.a.now c.args.signal x.mask }) c.mask_handler.ensures (λ x. refl)

@@ -1,0 +1,8 @@
+use Rattle.kernel_model.specs.Nodes.{Process as KernelProcess}
+use Rattle.kernel_model.specs.SignalSets.{without_signal}
+use Rattle.kernel_tables.proofs.Rows.{process_changed}
+use Rattle.std.proofs.Common.{refl}
+use Rattle.kernel_tables.proofs.tables.KernelTables.unpend_process.Goals as goal
+
+pub returns-clause-node : goal.returns-clause-node
+returns-clause-node c = λ files. process_changed _ files _ c.args.p.0 _ (λ (x : KernelProcess). record x { pending = without_signal c.args.signal x.pending }) c.unpend.ensures (λ x. refl)

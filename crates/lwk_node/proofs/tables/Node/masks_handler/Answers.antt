@@ -1,8 +1,0 @@
-use Rattle.kernel_model.specs.Nodes.{Thread as KernelThread}
-use Rattle.kernel_model.specs.Signals.{handler_mask}
-use Rattle.lwk_node.proofs.Rows.{thread_changed}
-use Rattle.std.proofs.Common.{refl}
-use Rattle.lwk_node.proofs.tables.Node.masks_handler.Goals as goal
-
-pub returns-clause-node : goal.returns-clause-node
-returns-clause-node c = λ files. thread_changed _ files _ c.args.t.0 _ (λ (x : KernelThread). record x { mask = handler_mask c.args.a.now c.args.signal x.mask }) c.mask_handler.ensures (λ x. refl)

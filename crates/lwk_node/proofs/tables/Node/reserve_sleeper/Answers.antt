@@ -1,5 +1,0 @@
-use Rattle.lwk_node.proofs.Made.{same_sleepers}
-use Rattle.lwk_node.proofs.tables.Node.reserve_sleeper.Goals as goal
-
-pub returns-clause-node : goal.returns-clause-node
-returns-clause-node c = λ files. same_sleepers c.args.self.now files c.reserve.new.self c.reserve.ensures.same

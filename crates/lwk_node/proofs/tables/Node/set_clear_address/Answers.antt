@@ -1,7 +1,0 @@
-use Rattle.kernel_model.specs.Nodes.{Thread as KernelThread}
-use Rattle.lwk_node.proofs.Rows.{thread_changed}
-use Rattle.std.proofs.Common.{refl}
-use Rattle.lwk_node.proofs.tables.Node.set_clear_address.Goals as goal
-
-pub returns-clause-node : goal.returns-clause-node
-returns-clause-node c = λ files. thread_changed _ files _ c.args.t.0 _ (λ (x : KernelThread). record x { clear_address = c.args.address }) c.set_clear.ensures (λ x. refl)

@@ -1,7 +1,0 @@
-use Rattle.futex_queues.specs.Sleep.{is_thread}
-use Rattle.lwk_node.proofs.Rows.{sleepers_are}
-use Rattle.mck_word.specs.Lists.{without}
-use Rattle.lwk_node.proofs.tables.Node.without_sleeper.Goals as goal
-
-pub returns-clause-node : goal.returns-clause-node
-returns-clause-node c = λ files. sleepers_are c.args.self.now files c.leave.new.self (λ ss. without (is_thread c.args.t.0) ss) c.leave.ensures.list

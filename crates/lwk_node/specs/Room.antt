@@ -1,9 +1,0 @@
--- What can be put into the tables without memory.
-use Rattle.lwk_node.specs.declared.tables.Node.{Node}
-use Rattle.std.specs.Prelude.{◌≤◌}
-
--- the room isn't lessened
-pub record KeepsRoom (a b : Node) : Type 0 where
-  pub processes : a.processes.spare ≤ b.processes.spare
-  pub threads : a.threads.spare ≤ b.threads.spare
-  pub sleepers : a.sleepers.spare ≤ b.sleepers.spare

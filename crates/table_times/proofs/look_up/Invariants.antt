@@ -1,5 +1,0 @@
-use Rattle.std.specs.Prelude.{◌≤◌}
-use Rattle.table_times.proofs.look_up.Given as goal
-
-abbrev pub invariant-loop : goal.invariant-loop
-invariant-loop g l = l.k ≤ l.count

@@ -1,9 +1,0 @@
-use Rattle.std.specs.Prelude.{◌+◌, ◌^◌}
-use Rattle.table_times.proofs.unmap_pages.Given as goal
-use Rattle.table_times.specs.Ranges.{AbsentFrom, ThereFrom}
-
-abbrev pub invariant-loop-page : goal.invariant-loop-page
-invariant-loop-page g l = record {
-  absent : AbsentFrom (g.T.PageTable.rows l.table) (2 ^ 20) l.page;
-  there : ThereFrom (g.T.PageTable.rows l.table) l.page (2 ^ 20 + l.count);
-}

@@ -1,9 +1,0 @@
-use Rattle.std.proofs.Common.{◌+◌, ◌^◌}
-use Rattle.table_times.proofs.Steps.{none-absent}
-use Rattle.table_times.proofs.work.Goals as goal
-
-pub map_pages-requires-clause-absent : goal.map_pages-requires-clause-absent
-map_pages-requires-clause-absent g c = none-absent (g.T.PageTable.rows c.in_ok-table.table) (2 ^ 20) (2 ^ 20 + c.min-count.result) c.in_ok-table.ensures
-
-pub map_rounds-requires-clause-absent : goal.map_rounds-requires-clause-absent
-map_rounds-requires-clause-absent g c = none-absent (g.T.PageTable.rows c.in_ok-table.table) (2 ^ 20) (2 ^ 20 + c.min-count.result) c.in_ok-table.ensures
