@@ -12,21 +12,22 @@ use Rattle.hybrid_model.specs.Finish.{finish_here, may_finish}
 use Rattle.hybrid_model.specs.Intake.{intake}
 use Rattle.hybrid_model.specs.Interrupt.{interrupt, may_interrupt}
 use Rattle.hybrid_model.specs.Miss.{may_miss, miss}
-use Rattle.hybrid_model.specs.OneProcess.{view_here, with_view}
-use Rattle.hybrid_model.specs.Pairs.{Here, Pair, here, put_here, with_node, with_side}
+use Rattle.hybrid_model.specs.Pairs.{Here, Pair, here, put_here, with_side}
 use Rattle.hybrid_model.specs.Park.{may_park, park_here}
 use Rattle.hybrid_model.specs.Pin.{may_pin, pin}
 use Rattle.hybrid_model.specs.Reap.{may_reap, reap}
 use Rattle.hybrid_model.specs.Rings.{ring}
 use Rattle.hybrid_model.specs.Run.{may_run_for, run}
 use Rattle.hybrid_model.specs.Trap.{after_trap}
+use Rattle.hybrid_model.specs.Script.{send_line}
 use Rattle.hybrid_model.specs.Unpark.{may_unpark, unpark_here}
 use Rattle.hybrid_model.specs.Unpin.{may_unpin, unpin}
+use Rattle.hybrid_model.specs.Wait.{wait}
 use Rattle.hybrid_model.specs.Workers.{has_worker, with_linux}
 use Rattle.hybrid_model.specs.declared.events.Event.{Event}
 use Rattle.hybrid_model.specs.declared.events.Event.TheVariants.{AckClear, Act, Answer, Assign, BeginVm, Copy, Deliver, Fetch, Finish, Intake, Interrupt, Miss, Park, Pin, Reap, Run, Script, Trap, Unpark, Unpin, Wait}
 use Rattle.kernel_model.specs.Nodes.{Node, ScriptLine, is_there, thread_of}
-use Rattle.kernel_model.specs.Traps.{line_of, may_deliver, may_script, may_trap, may_wait, script_sent, waited}
+use Rattle.kernel_model.specs.Traps.{line_of, may_deliver, may_script, may_trap, may_wait}
 use Rattle.std.specs.Prelude.{Bool, None, Option, Some, length, not, ℕ, ◌&&◌, ◌==◌}
 
 abbrev pub may_here : Event → Here → Bool
@@ -60,9 +61,9 @@ after_here (Intake q) p h = intake p h.side.to_lwk h
 after_here (Answer q w) p h = give_answer w h
 after_here (BeginVm t) p h = begin_vm p t.0 h
 after_here (Interrupt t) p h = interrupt t.0 h
-after_here (Wait t) p h = with_view (waited t.0 (view_here h)) h
+after_here (Wait t) p h = wait t.0 h
 after_here (Reap q) p h = reap p h
-after_here (Script k) p h = with_node h (script_sent k h.node)
+after_here (Script k) p h = send_line k h
 after_here (Fetch q r) p h = fetch_from r (ring r h.side.to_linux) h
 after_here (Assign q w) p h = with_linux (assign h.side.linux h.side.book w) h
 after_here (Miss q w) p h = miss p w h
