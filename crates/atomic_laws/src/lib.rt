@@ -1,7 +1,7 @@
 //! No atomic addition is lost: a doubleword into which threads store only by AMOADD.D has, after any stretch of any legal journal, its value
 //! before and all that was added, modulo 2 ^ 64.
 //!
-//! A function here has no work to do: its contract is the law. The words stand in specs/Additions, the proofs in the other files of specs/.
+//! A function here has no work to do: its contract is the law. The words stand in specs/Additions, the proofs in proofs/.
 #![tactic(auto)]
 
 ghost use Rattle.atomic_laws.specs.Additions.{HasWholePages, OnlyAdds, IsAmoadd, IsDoubleword, IsMore, PagesWhole, added, adds, doubleword, doubleword_of, only_adds, writes};

@@ -1,6 +1,6 @@
 //! What follows from the laws of the two kernels, for a reader: no ring is ever full, and the images of a journal tell its report.
 //!
-//! A function here has no work to do: its contract is the law. The words and the proofs stand in specs/, one file a law.
+//! A function here has no work to do: its contract is the law. The words stand in specs/, the proofs in proofs/, one file a law.
 #![tactic(auto)]
 
 ghost use Rattle.guest_laws.specs.RingRoom.{FindsRoom, RingsFit};

@@ -1,7 +1,7 @@
 //! Laws of what actors offer (run_model/specs/Walks): what an actor offers may happen, a run is over exactly where no actor has an offer,
 //! and so a walk is a legal journal at the end of which the run is over. And what every state on the way keeps small.
 //!
-//! A function here has no work to do: its contract is the law. The words and the proofs stand in specs/, one file a law.
+//! A function here has no work to do: its contract is the law. The words stand in specs/, the proofs in proofs/, one file a law.
 #![tactic(auto)]
 
 ghost use Rattle.hybrid_model.specs.Boot.{boot, shortage};

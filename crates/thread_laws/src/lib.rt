@@ -1,8 +1,8 @@
 //! Laws of threads: which there are after an event, and in which processes (specs/Members), so that lists of the live threads can be
 //! kept by looking at the threads of the event alone.
 //!
-//! A function here has no work to do: its contract is the law. The proofs stand in specs/, by families of events, and the laws of whole
-//! states in specs/Laws.
+//! A function here has no work to do: its contract is the law. The proofs stand in proofs/, by families of events, and the laws of whole
+//! states in proofs/Laws.
 #![tactic(auto)]
 
 ghost use Rattle.hybrid_model.specs.Events.{after, may, of_thread};

@@ -1,7 +1,7 @@
 //! Facts of the two kernels' states that are had again from there being some proof of them.
 //!
 //! Promises: where a proof of coherence is known to be, coherence is had, and so is what lasts and what is small. A struct can thus keep the fact as a
-//! ghost field, which has one proof at most. The proofs stand in specs/, from single facts up.
+//! ghost field, which has one proof at most. The proofs stand in proofs/, from single facts up.
 #![tactic(auto)]
 
 ghost use Rattle.hybrid_laws.specs.Lasting.{Lasting};

@@ -3,7 +3,7 @@
 //! prices for so many processes at most: each event but a Run lessens it, and only a trap and a line of the script add to it. So the work of a legal
 //! journal is at most its allowance (run_model/specs/Work). `left` has also what may still be added, and every event whatever lessens it.
 //!
-//! A function here has no work to do: its contract is the law. The proofs stand in specs/, one file a law.
+//! A function here has no work to do: its contract is the law. The proofs stand in proofs/, by what they speak of.
 #![tactic(auto)]
 
 ghost use Rattle.hybrid_model.specs.Boot.{boot, shortage};
