@@ -122,40 +122,64 @@ fn show_the_same(stores: &Stores) -> bool {
     alike(&stores.first, &stores.second)
 }
 
-// Runs a line: nothing, a note, `new INPUT`, which begins anew, `for A..B ROW`, or a row.
-fn run_line(alloc: Global, table: &mut Table, line: &str) -> Result<()> {
-    if line.is_empty() || line.starts_with("#") {
-        return Ok(());
-    }
+// Begins anew with process 1, whose console has the input that a word says.
+fn begin_anew(alloc: Global, table: &mut Table, word: &str) -> Result<()> {
+    let input = Words::of(word).bytes(alloc)?;
+    table.stores = begin(alloc, &input)?;
+    Ok(())
+}
+
+// Makes what a line asks for: `new INPUT`, which begins anew, `for A..B ROW`, or a row.
+fn make(alloc: Global, table: &mut Table, line: &str) -> Result<()> {
     if let Some(input) = line.strip_prefix("new ") {
-        let input = Words::of(input).bytes(alloc)?;
-        table.stores = begin(alloc, &input)?;
-    } else if let Some(text) = line.strip_prefix("for ") {
-        run_rows(alloc, table, text)?;
-    } else {
-        run_row(alloc, table, line)?;
+        return begin_anew(alloc, table, input);
     }
-    let same = show_the_same(&table.stores);
-    if !same {
+    match line.strip_prefix("for ") {
+        Some(text) => run_rows(alloc, table, text),
+        None => run_row(alloc, table, line),
+    }
+}
+
+// Tells of a line where the stores show different files behind it.
+fn compare(table: &mut Table, line: &str) -> Result<()> {
+    if !show_the_same(&table.stores) {
         table.told.push_str(line)?;
         table.told.push_str(": the stores differ\n")?;
     }
     Ok(())
 }
 
-/// What is told of a table: each call that was answered otherwise, and how many calls there were.
-pub fn run_table(alloc: Global, input: &[u8]) -> Result<String> {
-    let text = std::str::from_utf8(input)?;
-    let mut table = Table {
-        stores: begin(alloc, b"")?,
-        calls: 0,
-        told: String::new(alloc),
-    };
+// Runs a line: nothing, a note, or what is asked for.
+fn run_line(alloc: Global, table: &mut Table, line: &str) -> Result<()> {
+    if line.is_empty() || line.starts_with("#") {
+        return Ok(());
+    }
+    make(alloc, table, line)?;
+    compare(table, line)
+}
+
+fn run_lines(alloc: Global, table: &mut Table, text: &str) -> Result<()> {
     for line in text.lines() {
-        run_line(alloc, &mut table, line)?;
+        run_line(alloc, table, line)?;
     }
     let calls = table.calls;
     let end = format!(in alloc; "{calls} calls\n")?;
     table.told.push_str(end.as_str())?;
+    Ok(())
+}
+
+fn empty_table(alloc: Global) -> Result<Table> {
+    Ok(Table {
+        stores: begin(alloc, b"")?,
+        calls: 0,
+        told: String::new(alloc),
+    })
+}
+
+/// What is told of a table: each call that was answered otherwise, and how many calls there were.
+pub fn run_table(alloc: Global, input: &[u8]) -> Result<String> {
+    let text = std::str::from_utf8(input)?;
+    let mut table = empty_table(alloc)?;
+    run_lines(alloc, &mut table, text)?;
     Ok(table.told)
 }
