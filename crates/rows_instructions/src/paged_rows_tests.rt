@@ -1,4 +1,6 @@
 // Instructions over a plain paged memory.
+ghost use Rattle.paged_rows.specs.Rows.{pages_of};
+
 use isa_model::{Lack, Stop};
 use mck_flags::Rights;
 use mck_word::{Access, NoMemory, Regs};
