@@ -12,3 +12,8 @@ pub mod SameOutcome
 pub mod SameRuns
 pub mod RunSteps
 pub mod KnownForms
+pub mod SlotForms
+pub mod Aside
+pub mod Leading
+pub mod CodeWords
+pub mod SlotSteps

@@ -1,5 +1,5 @@
 -- Numbers in the bytes of one page, lowest byte first, and what is written into a page.
-use Rattle.std.specs.Prelude.{ℕ, zero, suc, ◌+◌, ◌*◌, ◌/◌, ◌%◌, ◌^◌, ◌≡◌, ◌<◌, ◌⊎◌, List, slice_set, Option, slice_index, option_map}
+use Rattle.std.specs.Prelude.{ℕ, zero, suc, ◌+◌, ◌*◌, ◌/◌, ◌%◌, ◌^◌, ◌≡◌, ◌<◌, ◌⊎◌, List, slice_set, Option, Some, None, slice_index, option_map}
 use Rattle.isa_model.specs.Memory.{Memory, Page, page_at}
 use Rattle.mck_word.specs.Maps.{change}
 
@@ -16,6 +16,11 @@ put_bytes b o (suc n) v = put_bytes (slice_set b o (v % 256)) (o + 1) n (v / 256
 -- the bytes of a page that is there
 abbrev pub bytes_of : Memory → ℕ → Option (List ℕ)
 bytes_of m p = option_map (λ page. page.bytes) (page_at m p)
+
+-- the word at a place in a page's bytes
+abbrev pub word_in : Option (List ℕ) → ℕ → ℕ
+word_in None o = 0
+word_in (Some b) o = le_number b o 4
 
 -- a page with the low n bytes of v in it
 abbrev pub page_put : ℕ → ℕ → ℕ → Page → Page

@@ -1,5 +1,5 @@
 -- Several instructions, one after another.
-use Rattle.std.specs.Prelude.{ℕ, zero, suc}
+use Rattle.std.specs.Prelude.{ℕ, zero, suc, ◌≡◌, ◌≤◌, ◌+◌}
 use Rattle.mck_word.specs.declared.Regs.{Regs}
 use Rattle.isa_model.specs.declared.stops.Stop.{Stop}
 use Rattle.isa_model.specs.declared.stops.Stop.TheVariants.{On}
@@ -25,3 +25,20 @@ then_count _ f o = 0
 unfoldable pub count_on : ℕ → Regs → Memory → ℕ
 count_on zero r m = 0
 count_on (suc n) r m = then_count (instr r m).stop (count_on n) (instr r m)
+
+-- ---- a part of several instructions
+
+-- what is left after a part, unless an instruction stopped
+abbrev pub rest_of : Stop → ℕ → Regs → Memory → Outcome
+rest_of On n r m = instrs n r m
+rest_of s n r m = outcome r m s
+
+abbrev pub rest_count : Stop → ℕ → Regs → Memory → ℕ
+rest_count On n r m = count_on n r m
+rest_count s n r m = 0
+
+-- n instructions have come to other registers, another memory and a stop, with k of them left
+pub record Leads (n : ℕ) (r : Regs) (m : Memory) (k : ℕ) (q : Regs) (w : Memory) (s : Stop) : Type 0 where
+  pub few : k ≤ n
+  pub did : instrs n r m ≡ rest_of s k q w
+  pub count : count_on n r m + k ≡ n + rest_count s k q w

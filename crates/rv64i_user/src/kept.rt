@@ -1,7 +1,10 @@
 // A memory with the place of the last code page kept.
-ghost use Rattle.std.specs.Prelude.{◌≡◌, ◌<◌, ◌/◌, ◌^◌, true, false};
+ghost use Rattle.std.specs.Prelude.{◌≡◌, ◌<◌, ◌/◌, ◌^◌, Some, true, false};
 ghost use Rattle.mck_word.specs.declared.Access.TheVariants.{Exec};
-ghost use Rattle.isa_model.specs.Memory.{lacks, fetched};
+ghost use Rattle.isa_model.specs.Memory.{IsSize, fetched, lacks, stored};
+ghost use Rattle.isa_model.specs.declared.stops.Stop.TheVariants.{On};
+ghost use Rattle.rv64i_user.specs.Places.{bytes_of};
+ghost use Rattle.rv64i_user.specs.Stopping.{store_outcome};
 
 use crate::memory::UserMem;
 use crate::page_memory::PageMem;
@@ -70,6 +73,40 @@ impl<P: PageMem> Kept<P> {
                 self.place = k;
             }
         }
+    }
+
+    /// Keeps the place of the code page of an address; answers whether it may be executed.
+    #[inline(always)]
+    pub fn find_code(&mut self, pc: u64) -> bool
+        ensures same { self.new.mem ≡ self.old.mem }
+        ensures kept { result ≡ true → self.new.page ≡ pc / 4096 }
+    {
+        self.look(pc);
+        self.page == pc / 4096
+    }
+
+    /// The bytes of the code page that is kept.
+    #[inline(always)]
+    pub fn code(&self) -> &[u8; 4096]
+        requires { self.now.page < 2 ^ 52 }
+        ensures { bytes_of (P.memory self.now.mem) self.now.page ≡ Some result.now }
+    {
+        self.mem.bytes(self.place, self.page)
+    }
+
+    /// A store, with its fault put into `stop`; answers whether it was made within one page that isn't the code page.
+    #[inline(always)]
+    pub fn store_aside(&mut self, addr: u64, size: u32, v: u64, stop: &mut Stop) -> bool
+        requires size { IsSize size }
+        requires on { stop.old ≡ On }
+        ensures stored { (stop.new, P.memory self.new.mem) ≡ store_outcome (stored (P.memory self.old.mem) addr size v) }
+        ensures page { self.new.page ≡ self.old.page }
+        ensures on { result ≡ true → stop.new ≡ On }
+        ensures aside { result ≡ true → bytes_of (P.memory self.new.mem) self.old.page ≡ bytes_of (P.memory self.old.mem) self.old.page }
+    {
+        let went = in_page::store_to(&mut self.mem, addr, size, v, stop);
+        let inside = (addr % 4096) as usize + size as usize <= 4096;
+        went && inside && addr / 4096 != self.page
     }
 }
 

@@ -9,6 +9,7 @@
 mod across;
 mod arith;
 mod atomic;
+mod flat;
 mod in_page;
 mod kept;
 mod known;
@@ -17,9 +18,13 @@ mod laws;
 mod memory;
 mod page_memory;
 mod page_numbers;
+mod page_runs;
 mod registers;
 mod running;
 mod several;
+mod slot_runs;
+mod slot_steps;
+mod slots;
 mod steps;
 
 pub use isa_model::{Lack, Stop};
