@@ -5,11 +5,11 @@
 #![tactic(auto)]
 
 #[cfg(test)]
+mod kernel_tables_tests;
+#[cfg(test)]
 mod lwk_calls_signal_tests;
 #[cfg(test)]
 mod lwk_calls_tests;
-#[cfg(test)]
-mod lwk_node_tests;
 #[cfg(test)]
 mod lwk_run_tests;
 #[cfg(test)]

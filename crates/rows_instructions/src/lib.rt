@@ -4,7 +4,7 @@
 #![tactic(auto)]
 
 #[cfg(test)]
-mod paged_rows_tests;
+mod paged_memory_tests;
 #[cfg(test)]
 mod rv_am_tests;
 #[cfg(test)]

@@ -12,7 +12,7 @@ mod lwk_boot_tests;
 #[cfg(test)]
 mod lwk_changes_tests;
 #[cfg(test)]
-mod lwk_tables_tests;
+mod lwk_space_tests;
 #[cfg(test)]
 mod one_changes_tests;
 #[cfg(test)]

@@ -1,5 +1,5 @@
 use Rattle.hybrid_model.specs.Sides.{Row}
-use Rattle.rows_spaces.proofs.lwk_tables_tests.a_copy_of_an_empty_space.Goals as goal
+use Rattle.rows_spaces.proofs.lwk_space_tests.a_copy_of_an_empty_space.Goals as goal
 use Rattle.mck_word.specs.Maps.{Map, count, no_rows}
 use Rattle.std.proofs.Common.{ap, arith, rules, ◌∙◌, ◌≡◌}
 use Rattle.std.specs.FinMap as finmap
