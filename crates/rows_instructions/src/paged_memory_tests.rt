@@ -1,5 +1,5 @@
 // Instructions over a plain paged memory.
-ghost use Rattle.paged_rows.specs.Rows.{pages_of};
+ghost use Rattle.paged_memory.specs.Rows.{pages_of};
 
 use isa_model::{Lack, Stop};
 use mck_flags::Rights;
