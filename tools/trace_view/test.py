@@ -211,6 +211,7 @@ class Browser(unittest.TestCase):
     def setUp(self):
         self.browser = next(filter(None, map(shutil.which, BROWSERS)), None)
         if not self.browser:
+            print("skipped: no browser is installed, so the page wasn't tried in one", file=sys.stderr)
             self.skipTest("no browser is installed, so the page wasn't tried in one")
 
     def shown(self, text, address=""):
