@@ -1,11 +1,12 @@
 #!/bin/sh
 # Compiles the C files of this folder for rv64i and for rv64gc with the installed cross compiler, and asks whether the
 # images load: the first have to, and the second have to be refused by their flags. Says `skipped` and ends with 77
-# where no compiler is installed, or where the program of the crate image_rules isn't built: that proves it too, and
-# so isn't begun here.
+# where no compiler is installed, or where the program that tells an image's fault isn't built: that proves it too,
+# and so isn't begun here.
 set -eu
 here=$(cd "$(dirname "$0")" && pwd)
-program="$here/../crates/image_rules/out/image_rules"
+crate=image_rules
+program="$here/../crates/$crate/out/$crate"
 folder=$(mktemp -d)
 trap 'rm -rf "$folder"' EXIT
 for source in "$here"/*.c; do
@@ -16,7 +17,7 @@ for source in "$here"/*.c; do
         exit 77
     fi
     if [ ! -x "$program" ]; then
-        echo "skipped: the program of crates/image_rules isn't built (rt run -- table <stdin there builds it)"
+        echo "skipped: the program of crates/$crate isn't built (rt run -- table <stdin there builds it)"
         exit 77
     fi
     echo "$name by $compiler"

@@ -23,5 +23,5 @@ def is_unproved():
 
 
 def seconds():
-    """How long a run may take here: an unproved build is some hundred times slower."""
+    """How long a run may take here: an unproved build is a few hundred times slower."""
     return 3000 if is_unproved() else 100
