@@ -115,7 +115,8 @@ def measured(job, tries, command, base):
 def main():
     tries = int(sys.argv[1]) if len(sys.argv) > 1 else 5
     if not os.access(PROGRAM, os.X_OK):
-        sys.exit("the program isn't built: rt run in crates/mcexec builds it")
+        print("skipped: the proved program isn't built (rt run in crates/mcexec builds it)")
+        sys.exit(77)
     base = least(Job([spinner(4)], frames=32), tries, "walk", "job")
     print(f"{'':26} {'at':>9} {'':>10} {'at':>9} {'':>10} {'ratio':>7}")
     spins = {n: least(Job([spinner(n)], frames=32, limit=4000000), tries, "walk", "job") - base for n in (300000, 3000000)}

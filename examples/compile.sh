@@ -1,10 +1,12 @@
 #!/bin/sh
-# Compiles a C file to a static executable, with the first cross compiler for riscv64 that is installed: compile.sh FILE.c OUT [MARCH MABI].
-# Debian's gcc-riscv64-unknown-elf, gcc-riscv64-linux-gnu, and clang with lld serve. Prints the compiler's name; ends with 3 where there is none.
+# Compiles a C file to a static executable, with the first cross compiler for riscv64 that is installed:
+# compile.sh FILE.c OUT [MARCH MABI]. Debian's gcc-riscv64-unknown-elf, gcc-riscv64-linux-gnu, and clang with lld serve.
+# Prints the compiler's name; ends with 3 where there is none.
 set -eu
 march=${3:-rv64i}
 mabi=${4:-lp64}
-options="-march=$march -mabi=$mabi -mno-relax -O1 -ffreestanding -fno-pic -fno-stack-protector -static -nostdlib -Wl,-e,_start -Wl,-s -Wl,--build-id=none -Wl,-z,max-page-size=4096"
+options="-march=$march -mabi=$mabi -mno-relax -O1 -ffreestanding -fno-pic -fno-stack-protector -static -nostdlib"
+options="$options -Wl,-e,_start -Wl,-s -Wl,--build-id=none -Wl,-z,max-page-size=4096"
 for compiler in riscv64-unknown-elf-gcc riscv64-linux-gnu-gcc; do
     if command -v "$compiler" >/dev/null 2>&1; then
         "$compiler" $options -o "$2" "$1"

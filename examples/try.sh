@@ -1,18 +1,16 @@
 #!/bin/sh
-# Runs each command over the jobs of this folder by the built program, and compares what it writes with the texts that are kept here:
-# reports, a trace, and what a check says. A trace is replayed and audited to the report of its walk.
-cd "$(dirname "$0")" || exit 1
-program=../crates/mcexec/out/mcexec
-if [ ! -x "$program" ]; then
-    echo "skipped: the program isn't built (rt run in crates/mcexec)"
-    exit 0
+# Runs each command over the jobs of this folder, and compares what it writes with the texts that are kept here:
+# reports, a trace, and what a check says. A trace is replayed and audited to the report of its walk. It runs the
+# program that the launcher runs, built where it isn't yet. It ends with 1 where a text differs, and with 77 where
+# there is no program.
+cd "$(dirname "$0")" || exit 125
+if ! program=$(../tools/program.sh); then
+    echo "skipped: the program isn't built"
+    exit 77
 fi
-room=$(mktemp -d) || exit 1
+room=$(mktemp -d) || exit 125
 trap 'rm -rf "$room"' EXIT
-cp ./*.job ./*.trace "$room"
-for text in *.hex; do
-    xxd -r -p "$text" >"$room/${text%.hex}"
-done
+cp ./*.job ./*.trace "$room" && ./write_images.sh "$room" || exit 125
 wrong=0
 count=0
 
@@ -21,20 +19,26 @@ writes() {
     file=$1
     shift
     count=$((count + 1))
-    if ! (cd "$room" && exec "$OLDPWD/$program" "$@") | cmp -s - "$file"; then
+    if ! (cd "$room" && exec "$program" "$@") | cmp -s - "$file"; then
         echo "mcexec $*: not the text of $file"
         wrong=$((wrong + 1))
     fi
 }
 
-for name in exit_seven hello pipe greeting; do
-    writes "$name.report" walk "$name.job"
-    writes "$name.report" walk "$name.job" 7
+for job in *.job; do
+    name=${job%.job}
+    [ -f "$name.report" ] || continue
+    writes "$name.report" walk "$job"
+    writes "$name.report" walk "$job" 7
 done
 writes hello.check check hello.job
 writes hello.trace walk hello.job trace
 writes hello.report replay hello.job hello.trace
 writes hello.report audit hello.job hello.trace
 writes ../crates/mcexec/stdout grow 16
-echo "$count commands of the examples, $wrong wrong"
+case $program in
+    */unproved/*) of=" of an unproved build" ;;
+    *) of= ;;
+esac
+echo "$count commands of the examples$of, $wrong wrong"
 [ "$wrong" -eq 0 ]

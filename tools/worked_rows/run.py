@@ -1,14 +1,14 @@
 #!/usr/bin/env python3
-"""Runs the worked rows that are walks in order 0 by the built program, and compares whole reports and traces, or lines of a report; then the rows of
-hostile guests, in order 0 and in orders 1 to 16.
+"""Runs the worked rows that are walks in order 0 by the program, and compares whole reports and traces, or lines of a
+report; then the rows of hostile guests, in order 0 and in orders 1 to 16.
 
     run.py            all of them
     run.py NAME..     these
 
-The program is crates/mcexec/out/mcexec, which `rt run` leaves in crates/mcexec.
+The program is the one that the launcher runs, and is built where it isn't yet. It ends with 1 where a row differs,
+with 2 where a name is no row's, and with 77 where there is no program.
 """
 
-import os
 import struct
 import subprocess
 import sys
@@ -16,11 +16,11 @@ import tempfile
 from pathlib import Path
 
 HERE = Path(__file__).resolve().parent
-sys.path.insert(0, str(HERE))
+sys.path[:0] = [str(HERE), str(HERE.parent)]
 import hostile  # noqa: E402
+import programs  # noqa: E402
 from rows import LINES, RUNS  # noqa: E402
 
-PROGRAM = HERE.parent.parent / "crates" / "mcexec" / "out" / "mcexec"
 STATUS = dict(done=0, stalled=1, limit=6)
 
 
@@ -58,7 +58,8 @@ def write_job(folder, images, job):
 
 
 def walk(folder, *words):
-    return subprocess.run([PROGRAM, "walk", "job", *words], cwd=folder, capture_output=True, timeout=100)
+    whole = [programs.mcexec(), "walk", "job", *words]
+    return subprocess.run(whole, cwd=folder, capture_output=True, timeout=programs.seconds())
 
 
 def first_difference(got, wanted):
@@ -95,7 +96,10 @@ def judged_in_orders(name):
         write_job(folder, [guest.words_and_data()], job.plain)
         for order in range(17):
             ran = walk(folder, str(order))
-            wrong = differs(ran.stdout, wanted) if name in hostile.LINES else ran.stdout != wanted and first_difference(ran.stdout, wanted)
+            if name in hostile.LINES:
+                wrong = differs(ran.stdout, wanted)
+            else:
+                wrong = ran.stdout != wanted and first_difference(ran.stdout, wanted)
             if wrong or ran.returncode != 0:
                 return f"order {order}: {wrong or ''} (status {ran.returncode})"
     return ""
@@ -124,16 +128,19 @@ def judged(name):
 
 
 def main(names):
-    if not os.access(PROGRAM, os.X_OK):
-        print("skipped: the program isn't built (rt run in crates/mcexec)")
-        return 0
+    known = [*RUNS, *LINES, *hostile.REPORTS, *hostile.LINES]
+    unknown = [name for name in names if name not in known]
+    if unknown:
+        print(f"run.py: no row is named {unknown[0]}; the rows are {' '.join(known)}", file=sys.stderr)
+        return 2
+    programs.mcexec()
     wrong = 0
-    names = names or [*RUNS, *LINES, *hostile.REPORTS, *hostile.LINES]
+    names = names or known
     for name in names:
         said = judged(name)
         wrong += bool(said)
-        print(f"{name}: {said or 'as it should be'}")
-    print(f"{len(names)} rows, {wrong} wrong")
+        print(f"{name}: {said or 'as it should be'}", flush=True)
+    print(f"{len(names)} rows{' by an unproved build' if programs.is_unproved() else ''}, {wrong} wrong")
     return 1 if wrong else 0
 
 
