@@ -1,4 +1,4 @@
--- Instructions as slots: what the form of a word says by a flat name, three registers and an immediate, and what that does.
+-- Instructions as slots: a form as a flat name, three registers and an immediate, and what that does.
 use Rattle.std.specs.Prelude.{ℕ, ◌≡◌, ◌+◌, ◌*◌, ◌/◌, ◌%◌, ◌^◌, ◌==◌, Bool, true, false, List, Option, Some, None, ℤ, pos, slice_index, if◌then◌else◌}
 use Rattle.std.specs.Int.{w32, cast_signed, cast_unsigned}
 use Rattle.mck_word.specs.declared.Regs.{Regs}

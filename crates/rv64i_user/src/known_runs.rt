@@ -57,7 +57,8 @@ fn went_on(stop: &Stop) -> bool
     }
 }
 
-// Keeps the code page that control is in; answers whether it may run there as slots do: register 0 holds 0, and the page may be executed.
+// Keeps the code page that control is in; answers whether instructions may run there as slots: register 0 holds 0, and the
+// page may be executed.
 #[inline(always)]
 fn is_in_code<P: PageMem>(r: &Regs, mem: &mut Kept<P>) -> bool
     ensures same { mem.new.mem ≡ mem.old.mem }
@@ -68,8 +69,8 @@ fn is_in_code<P: PageMem>(r: &Regs, mem: &mut Kept<P>) -> bool
     r.x[0] == 0 && r.pc % 4 == 0 && mem.find_code(r.pc)
 }
 
-// Executes some of at most `most` instructions, and at least one that goes on or stops: many where control is in a code page, and one
-// in the odd cases. Answers how many are left to do.
+// Executes some of at most `most` instructions, and at least one that goes on or stops: many where control is in a code
+// page, and one in the odd cases. Answers how many are left to do.
 #[inline(always)]
 fn run_some<P: PageMem>(
     r: &mut Regs,

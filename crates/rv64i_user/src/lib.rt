@@ -1,7 +1,8 @@
 //! One instruction of RV64I with M and the atomic operations of A, over any memory of pages.
 //!
 //! Promises: `step` is the definition of one instruction over every memory that meets `UserMem`, and `run_most` is that definition
-//! n times, up to the first stop; `run_known` is the same with instructions that were decoded before. An instruction that stops
+//! n times, up to the first stop; `run_known` is the same with instructions that were decoded before: slots, in lines of 16 that
+//! are compared with the code once. An instruction that stops
 //! changes nothing, and what instructions do rests on the pages that they touch. The definition stands in isa_model (specs/Instr); here specs/Runs has several instructions, specs/Seen what
 //! pages decide, specs/Places numbers in a page.
 #![tactic(auto)]

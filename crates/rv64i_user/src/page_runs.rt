@@ -11,8 +11,9 @@ use crate::slot_runs::run_slots;
 use isa_model::Stop;
 use mck_word::Regs;
 
-// Executes instructions of the code page that is kept, as long as control is in it and its code is known, at most `most` of them. Answers
-// how many are left to do. A line of 16 words is compared with its slots when control comes to it first.
+// Executes at most `most` instructions of the code page that is kept, as long as control is in it and its code is known.
+// Answers how many are left to do. A line of 16 words is compared with its slots when control comes to it first. A store into
+// the page makes its code unknown, so each line is compared again afterwards.
 #[inline(always)]
 pub fn run_page<P: PageMem>(
     r: &mut Regs,

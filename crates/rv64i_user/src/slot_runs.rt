@@ -24,8 +24,8 @@ fn gone(stop: &Stop) -> u32
     }
 }
 
-// Does the slots of the code page that is kept from one on, and takes those that went on from what is left to do. Answers whether
-// the code is still known.
+// Does the slots of the code page that is kept, from `from` on and below `end`, and takes those that went on from what is
+// left to do. Answers whether the code is still known.
 #[inline(always)]
 pub fn run_slots<P: PageMem>(
     x: &mut [u64; 32],

@@ -8,8 +8,9 @@ use isa_model::kinds::{Kind, kind_for};
 use isa_model::{Form, Op};
 use rv_code::decode;
 
-// What a slot does. An instruction that would write register 0 has another name: a computing one and a fence are Nothing, the
-// two that jump are Jump and JumpTo. Other is what is done one at a time: no instruction of RV64I, and a load into register 0.
+// What a slot does. An instruction that would write register 0 has another name: a computing one is Nothing, as a fence is,
+// and the two that jump are Jump and JumpTo. Other is what is done one at a time: no instruction of RV64I, and a load into
+// register 0.
 #[derive(Clone, Copy, PartialEq, Eq)]
 pub enum Act {
     Lui,
