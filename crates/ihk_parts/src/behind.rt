@@ -6,11 +6,11 @@ ghost use Rattle.run_model.specs.declared.actors.Actor.TheVariants.{Core, Worker
 ghost use Rattle.std.specs.Option.{option_copied, option_map};
 ghost use Rattle.std.specs.Prelude.{◌≡◌, ◌∷◌, map};
 
-use crate::offers::Offers;
 use crate::passing::{
     Choice, pass_from_core, pass_linux, pass_processes_and_script, pass_workers_from,
 };
 use mck_word::Pid;
+use node_machine::Offers;
 use run_model::Actor;
 
 // The processes behind this one, found by halving; None where it isn't there.

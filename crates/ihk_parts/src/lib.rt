@@ -6,12 +6,9 @@
 #![tactic(auto)]
 
 mod behind;
-mod offers;
 mod passing;
 mod turn;
 mod walker;
 
-pub use offers::Offers;
-pub use run_model::Actor;
 pub use turn::Turn;
 pub use walker::{Walker, turns_are_choices, turns_move_on};

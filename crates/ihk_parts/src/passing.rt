@@ -6,9 +6,9 @@ ghost use Rattle.run_model.specs.declared.actors.Actor.TheVariants.{Worker, Linu
 ghost use Rattle.std.specs.Option.{option_map};
 ghost use Rattle.std.specs.Prelude.{◌≡◌, ◌∷◌, ◌++◌, [], flat_map, map};
 
-use crate::offers::Offers;
 use hybrid_model::Event;
 use mck_word::Pid;
+use node_machine::{Offers, offer};
 use run_model::Actor;
 
 /// An actor and its event.
@@ -21,7 +21,7 @@ pub struct Choice {
 fn look<P: Offers>(machine: &P, actor: Actor) -> Option<Choice>
     ensures { option_map as_chosen result ≡ chosen_by (P.pair machine.now) actor }
 {
-    let event = machine.offer(actor)?;
+    let event = offer(machine, actor)?;
     Some(Choice { actor, event })
 }
 

@@ -11,10 +11,10 @@ ghost use Rattle.run_model.specs.Walks as walks;
 ghost use Rattle.ihk_parts.specs.Turns.{turn_at, words_of};
 
 use crate::behind::pass_behind;
-use crate::offers::Offers;
 use crate::passing::{Choice, pass_all};
 use crate::turn::Turn;
 use hybrid_model::Event;
+use node_machine::Offers;
 use rand_core::SeedableRng;
 use rand_core::utils::NextWord;
 use rand_pcg::Pcg32;

@@ -2,8 +2,8 @@
 //! The status's line goes to standard error, and its number is the exit status.
 //!
 //! Promises: over any host and sink, `answer` meets the table of statuses (mcexec_run, Outcome) with the two kernels of pair_node, page tables
-//! of three levels and the store of files of the Linux side, and of an audit with the one-kernel machine of one_node. In it stands, for each journal that a walk, a replay or an audit keeps, the whole
-//! main theorem (hybrid_model, Claims).
+//! of three levels and the store of files of the Linux side, and of an audit with the one-kernel machine of one_kernel. In it stands, for
+//! each journal that a walk, a replay or an audit keeps, the whole main theorem (hybrid_model, Claims).
 //! What the system gives under a name, and what becomes of what it takes, no clause says.
 #![tactic(auto)]
 
@@ -19,7 +19,7 @@ ghost use Rattle.std.specs.Process.{exit_status};
 use linux_files::LinuxFiles;
 use mcexec_run::{Audited, mcexec};
 use mck_report::{Status, status_line, status_number};
-use one_node::SingleNode;
+use one_kernel::One;
 use outside::{Host, Sink};
 use pair_node::Pair;
 use std::alloc::Global;
@@ -38,17 +38,17 @@ fn answer<H: Host, S: Sink>(
     words: &[String],
     host: &mut H,
     sink: &mut S,
-) -> Audited<SingleNode>
+) -> Audited<One>
     ensures goes_on { HostGoesOn H.holds H.faults host.old host.new }
     ensures rises { S.faults sink.old ≤ S.faults sink.new }
     ensures outcome { WhereTold (H.holds host.old) (λ held.
         CallOutcome (command_of words.now) (second_word words.now) (third_word words.now) held result.status result.journal (S.taken sink.old) (S.taken sink.new)) }
     ensures hands_out { is_some result.machine ≡ hands_out (command_of words.now) result.status }
     ensures machine { WhereTold (H.holds host.old) (λ held.
-        CallMachine (command_of words.now) (second_word words.now) (third_word words.now) held result.status result.journal (option_map (λ x. one_of x.one) result.machine)) }
+        CallMachine (command_of words.now) (second_word words.now) (third_word words.now) held result.status result.journal (option_map one_of result.machine)) }
     ensures complete { WhereTold (H.holds host.old) (λ held. CallCompletes (command_of words.now) (second_word words.now) (third_word words.now) held result.status result.journal) }
 {
-    mcexec::<Node, SingleNode, H, S>(alloc, words, host, sink)
+    mcexec::<Node, One, H, S>(alloc, words, host, sink)
 }
 
 // The words behind the program's name. One that isn't UTF-8 fits no command.

@@ -11,13 +11,14 @@ use Rattle.kernel_model.specs.Steps.{after_all, may_all}
 use Rattle.kernel_model.specs.declared.steps.Step.{Step}
 use Rattle.mck_word.specs.declared.Tid.{Tid}
 use Rattle.mck_word.specs.declared.no_memory.NoMemory.{NoMemory}
-use Rattle.mcexec_run.specs.Auditing.{IsReached, IsShown, executed, steps_of}
 use Rattle.mcexec_run.specs.Lockstep.{RoomBy, run_thread, steps_by}
+use Rattle.node_machine.specs.Reached.{IsReached, IsShown}
+use Rattle.node_machine.specs.Stepping.{executed, steps_of}
 use Rattle.std.proofs.Common.{Err, None, Ok, OnOk, Option, Result, Some, ap, refl, subst, sym, true, ℕ, ◌∙◌, ◌≡◌}
 use Rattle.std.proofs.Math.Logic.{∥∥₁_map}
 
 pub shown : (o : OneKernel) (pair : Pair) → o ≡ one pair → IsReached pair → IsShown o
-shown o pair e r = ∥∥₁_map r (λ s. (pair, s, sym e))
+shown o pair e r = ∥∥₁_map r (λ s. record { pair = pair; sound = s; shows = sym e })
 
 image_is : (e : Event) (pair : Pair) (step : Option Step) → image pair e ≡ steps_of e step (executed pair e) → image pair e ≡ steps_by (run_thread e) step (executed pair e)
 image_is (Run core t n) pair step h = refl

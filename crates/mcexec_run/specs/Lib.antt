@@ -1,6 +1,4 @@
-pub mod Auditing
 pub mod Audits
-pub mod Booting
 pub mod Calls
 pub mod Chain
 pub mod Commands

@@ -8,13 +8,12 @@ ghost use Rattle.std.specs.Option.{option_map};
 ghost use Rattle.std.specs.Prelude.{◌≡◌, ◌≤◌, is_some};
 
 use crate::lockstep::Lockstep;
-use crate::machine::Machine;
 use crate::replays::{Replayed, replay_job};
-use crate::single::SingleKernel;
 use hybrid_laws::whole::every_legal_journal;
 use hybrid_model::Event;
 use mck_report::Status;
 use mck_word::Items;
+use node_machine::{Machine, SingleKernel};
 use outside::{Host, Sink};
 use std::alloc::Global;
 

@@ -10,13 +10,12 @@ ghost use Rattle.std.specs.Prelude.{◌≡◌, ◌≤◌, [], None, is_some};
 use crate::audits::{Audited, audit};
 use crate::checks::check;
 use crate::command::{Command, read_command};
-use crate::machine::Machine;
 use crate::replays::replay;
-use crate::single::SingleKernel;
 use crate::walks::{grow, walk};
 use hybrid_model::Event;
 use mck_report::Status;
 use mck_word::Items;
+use node_machine::{Machine, SingleKernel};
 use outside::{Host, Sink};
 use std::alloc::Global;
 

@@ -8,10 +8,10 @@ ghost use Rattle.std.specs.Prelude.{◌≡◌, ◌≢◌, ◌≤◌, []};
 
 use crate::calls::Ended;
 use crate::chain::{Prepared, gather};
-use crate::machine::Machine;
 use crate::stages::boot;
 use mck_report::Status;
 use mck_word::{Bytes, Items, NoMemory};
+use node_machine::Machine;
 use outside::{Host, Sink, put_all};
 use std::alloc::Global;
 

@@ -5,9 +5,9 @@
 //! of statuses; a walk's journal is the one that its order names, up to where no event is offered, and a replay's the one that its trace
 //! spells; each is legal, and its text is written byte for byte. Of every journal that is kept the whole main theorem holds (hybrid_model,
 //! Claims). An audit runs the one-kernel machine over the steps that the journal's events stand for, prints from it and hands it out; it
-//! writes what a replay writes. The calls are over any `Machine` and any `SingleKernel`. The definitions stand in specs/: Commands and
-//! Chain (what stands before a run), Walking, Replaying, Growing, Audits (what each comes to), Outcome and Calls (the table), Auditing
-//! and Lockstep (the two machines side by side).
+//! writes what a replay writes. The calls are over any `Machine` and any `SingleKernel` (node_machine). The definitions stand in specs/:
+//! Commands and Chain (what stands before a run), Walking, Replaying, Growing, Audits (what each comes to), Outcome and Calls (the
+//! table), and Lockstep (the two machines side by side).
 #![tactic(auto)]
 
 mod audits;
@@ -16,10 +16,8 @@ mod chain;
 mod checks;
 mod command;
 mod lockstep;
-mod machine;
 mod replaying;
 mod replays;
-mod single;
 mod stages;
 mod walking;
 mod walks;
@@ -30,10 +28,8 @@ pub use chain::{Fetched, Prepared, gather};
 pub use checks::check;
 pub use command::{Command, Form, read_command};
 pub use lockstep::Lockstep;
-pub use machine::{BootError, Machine};
 pub use replaying::{Refusal, replay_trace};
 pub use replays::{Replayed, replay, replay_job};
-pub use single::SingleKernel;
 pub use stages::Text;
 pub use walking::walk_journal;
 pub use walks::{grow, walk};

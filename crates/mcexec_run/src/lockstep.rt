@@ -2,21 +2,19 @@
 ghost use Rattle.hybrid_model.specs.Images.{image};
 ghost use Rattle.hybrid_model.specs.Shown.{one};
 ghost use Rattle.kernel_model.specs.Steps.{after_all, may_all};
-ghost use Rattle.mcexec_run.specs.Auditing.{IsShown};
 ghost use Rattle.mcexec_run.specs.Lockstep.{RoomBy, run_thread, steps_by};
 ghost use Rattle.mcexec_run.specs.OneCodes.{one-once};
+ghost use Rattle.node_machine.specs.Reached.{IsShown};
 ghost use Rattle.std.specs.Prelude.{◌≡◌, ℕ, OnOk, true};
 
-use crate::machine::{BootError, Machine};
-use crate::single::SingleKernel;
 use elf_load::Image;
 use hybrid_laws::lwk_laws::every_event;
 use hybrid_laws::whole::every_boot;
 use hybrid_model::{Ending, Event};
-use ihk_parts::{Actor, Offers};
 use job_text::Job;
 use kernel_model::Step;
 use mck_word::{NoMemory, Pid, Tid};
+use node_machine::{BootError, Machine, Offers, SingleKernel};
 use run_summary::Summary;
 use std::alloc::Global;
 use told_states::every_told_state;
@@ -91,8 +89,24 @@ impl<M: Machine, O: SingleKernel> Offers for Lockstep<M, O> {
         self.machine.processes()
     }
 
-    fn offer(&self, actor: Actor) -> Option<Event> {
-        self.machine.offer(actor)
+    fn core_offer(&self, core: u32) -> Option<Event> {
+        self.machine.core_offer(core)
+    }
+
+    fn kernel_offer(&self, p: Pid) -> Option<Event> {
+        self.machine.kernel_offer(p)
+    }
+
+    fn linux_offer(&self, p: Pid) -> Option<Event> {
+        self.machine.linux_offer(p)
+    }
+
+    fn worker_offer(&self, p: Pid, w: u32) -> Option<Event> {
+        self.machine.worker_offer(p, w)
+    }
+
+    fn script_offer(&self) -> Option<Event> {
+        self.machine.script_offer()
     }
 }
 

@@ -8,10 +8,10 @@ ghost use Rattle.run_model.specs.Traces.{event_lines};
 ghost use Rattle.std.specs.List.{AllByRecursion};
 ghost use Rattle.std.specs.Prelude.{◌≡◌, ◌<◌, ◌+◌, ◌^◌, [], Err, ℕ, IsErrOf, OnOk, length, true};
 
-use crate::machine::Machine;
 use hybrid_model::Event;
 use mck_report::{split_entry, split_version};
 use mck_word::{Items, NoMemory};
+use node_machine::Machine;
 
 /// Why a trace was not run to its end: its first line that is no entry or whose event may not happen there, counted from 1, or want of
 /// memory.

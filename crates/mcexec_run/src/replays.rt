@@ -11,13 +11,13 @@ ghost use Rattle.std.specs.Prelude.{◌≡◌, ◌≢◌, ◌≤◌, [], IfSome,
 use crate::calls::Ended;
 use crate::chain::{Prepared, fetch_name, gather};
 use crate::command::Form;
-use crate::machine::Machine;
 use crate::replaying::{Refusal, replay_trace};
 use crate::stages::{Text, boot, show};
 use hybrid_laws::whole::every_legal_journal;
 use hybrid_model::Event;
 use mck_report::Status;
 use mck_word::Items;
+use node_machine::Machine;
 use outside::{Host, Sink};
 use std::alloc::Global;
 

@@ -13,10 +13,10 @@ ghost use Rattle.std.specs.Prelude.{◌≡◌, ◌≢◌, ◌≤◌, IfErr, IfOk
 
 use crate::chain::Prepared;
 use crate::command::Form;
-use crate::machine::{BootError, Machine};
 use hybrid_model::Event;
 use mck_report::{Status, grow, report, trace};
 use mck_word::{Bytes, NoMemory};
+use node_machine::{BootError, Machine};
 use outside::{Sink, put_all};
 use run_summary::{one_count, one_report};
 use std::alloc::Global;

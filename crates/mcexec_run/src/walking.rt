@@ -6,10 +6,10 @@ ghost use Rattle.mcexec_run.specs.Walking.{Follows, LeavesLess, walker_at};
 ghost use Rattle.run_model.specs.Walks.{walk_for};
 ghost use Rattle.std.specs.Prelude.{◌≡◌, ◌≢◌, ◌+◌, [], OnOk, length, true};
 
-use crate::machine::Machine;
 use hybrid_model::Event;
 use ihk_parts::Walker;
 use mck_word::{Items, NoMemory};
+use node_machine::Machine;
 
 /// Walks the machine to where nobody has an offer. The journal so far stays where memory runs out.
 pub fn walk_journal<M: Machine>(

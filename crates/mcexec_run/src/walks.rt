@@ -11,7 +11,6 @@ ghost use Rattle.std.specs.Prelude.{◌≡◌, ◌≢◌, ◌≤◌, [], IfOk, O
 use crate::calls::Ended;
 use crate::chain::{Prepared, gather};
 use crate::command::Form;
-use crate::machine::Machine;
 use crate::stages::{Text, boot, show};
 use crate::walking::walk_journal;
 use guest_asm::grow_job;
@@ -19,6 +18,7 @@ use hybrid_laws::whole::every_legal_journal;
 use hybrid_model::Event;
 use mck_report::Status;
 use mck_word::{Items, NoMemory};
+use node_machine::Machine;
 use outside::{Host, Sink};
 use std::alloc::Global;
 use work_laws::every_event_leaves_less;

@@ -24,7 +24,7 @@ use Rattle.one_kernel.proofs.After.{put-same, row-there}
 use Rattle.one_kernel.proofs.Facts.{thread-own}
 use Rattle.one_kernel.specs.Due.{HasChangeRoom, HasRoomFor, due, due_by, unless_refused}
 use Rattle.one_kernel.specs.Parts.{one_of, shown_call, shown_own}
-use Rattle.one_kernel.specs.Shown.{IsShown}
+use Rattle.node_machine.specs.Reached.{IsShown}
 use Rattle.one_kernel.specs.Trapping.{calls_memory, changes_at, is_on_memory, plan_of}
 use Rattle.one_kernel.specs.declared.parts.One.{One}
 use Rattle.one_kernel.specs.declared.parts.Own.{Own}

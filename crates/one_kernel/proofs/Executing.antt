@@ -16,7 +16,7 @@ use Rattle.one_kernel.proofs.Calling.{both}
 use Rattle.one_kernel.proofs.Facts.{thread-own}
 use Rattle.one_kernel.proofs.InstrRuns.{Runs, ran, runs-some}
 use Rattle.one_kernel.specs.Parts.{one_of, shown_call, shown_own}
-use Rattle.one_kernel.specs.Shown.{IsShown}
+use Rattle.node_machine.specs.Reached.{IsShown}
 use Rattle.one_kernel.specs.declared.parts.One.{One}
 use Rattle.one_kernel.specs.declared.parts.Own.{Own}
 use Rattle.std.proofs.Common.{ap, arith, refl, subst, sym, ◌∙◌}

@@ -14,7 +14,7 @@ use Rattle.mck_word.specs.Maps.{at, count}
 use Rattle.offer_laws.specs.Small.{most_instructions}
 use Rattle.one_kernel.proofs.FewCalls.{few-calls, number-small}
 use Rattle.one_kernel.proofs.Told.{bool-told, le-told, lt-told}
-use Rattle.one_kernel.specs.Shown.{IsShown, Shows}
+use Rattle.node_machine.specs.Reached.{IsShown, Shows}
 use Rattle.std.proofs.Common.{ap, arith, refl, subst, sym, ◌∙◌}
 use Rattle.std.specs.Prelude.{Bool, None, Option, Some, false, is_some, not, option_map, true, unwrap_or, ℕ, ◌&&◌, ◌+◌, ◌≡◌, ◌≤◌}
 
@@ -45,12 +45,12 @@ module _ (o : OneKernel) (t : IsShown o) where
   -- a process has a row where it was made
   pub own-are : (p : ℕ) → is_some (at o.own p) ≡ has_process o.node p
   own-are p = bool-told t (λ s. subst (λ (x : OneKernel). is_some (at x.own p) ≡ has_process x.node p) s.shows
-      (ap is_some (at-each (shown_own s.pair.frames) s.pair.sides p) ∙ some-mapped (shown_own s.pair.frames) (at s.pair.sides p) ∙ s.coherent.known.sides_are p))
+      (ap is_some (at-each (shown_own s.pair.frames) s.pair.sides p) ∙ some-mapped (shown_own s.pair.frames) (at s.pair.sides p) ∙ s.sound.coherent.known.sides_are p))
 
   -- so the process of a thread has one
   pub thread-has : (k : ℕ) (x : Thread) → at o.node.threads k ≡ Some x → has_process o.node x.process ≡ true
   thread-has k x e = bool-told t (λ s. subst (λ (y : OneKernel). at y.node.threads k ≡ Some x → has_process y.node x.process ≡ true) s.shows
-      (λ there. both-first (has_process s.pair.node x.process) (not (is_ended s.pair.node x.process)) (s.coherent.known.threads_there k x there)) e)
+      (λ there. both-first (has_process s.pair.node x.process) (not (is_ended s.pair.node x.process)) (s.sound.coherent.known.threads_there k x there)) e)
 
   pub thread-own : (k : ℕ) → has_thread o.node k ≡ true → is_some (at o.own (thread_of o.node k).process) ≡ true
   thread-own k e = own-are (thread_of o.node k).process ∙ go (at o.node.threads k) refl
@@ -67,7 +67,7 @@ module _ (o : OneKernel) (t : IsShown o) where
 
   -- no description is held by too many calls
   pub few-held : FewCalls o.node.files
-  few-held d = lt-told t (λ s. subst (λ (x : OneKernel). FewCalls x.node.files) s.shows (few-calls s.pair s.coherent s.small) d)
+  few-held d = lt-told t (λ s. subst (λ (x : OneKernel). FewCalls x.node.files) s.shows (few-calls s.pair s.sound.coherent s.sound.small) d)
 
   -- the frames that are free and those of a process are no more than there are
   pub frames-fit : (p : ℕ) (w : Own) → at o.own p ≡ Some w → o.free + count w.memory ≤ o.node.frame_count
@@ -83,23 +83,23 @@ module _ (o : OneKernel) (t : IsShown o) where
               let rows = count-each (shown_row s.pair.frames) x.lwk.table in
               let pages = ap (λ (y : Own). count y.memory) same in
               let least = entries-least (λ (y : ℕ × Side). count y.1.lwk.table) s.pair.sides p x is in
-              let all = s.coherent.counted.counted in
+              let all = s.sound.coherent.counted.counted in
               omega (arith, rows, pages, least, all)
 
   -- numbers stay small
   pub next-small : o.node.next_number ≤ 4_000_017
-  next-small = le-told t (λ s. subst (λ (x : OneKernel). x.node.next_number ≤ 4_000_017) s.shows (number-small s.pair s.coherent s.small))
+  next-small = le-told t (λ s. subst (λ (x : OneKernel). x.node.next_number ≤ 4_000_017) s.shows (number-small s.pair s.sound.coherent s.sound.small))
 
   pub limit-small : o.node.limit ≤ most_instructions
-  limit-small = le-told t (λ s. subst (λ (x : OneKernel). x.node.limit ≤ most_instructions) s.shows s.small.limit)
+  limit-small = le-told t (λ s. subst (λ (x : OneKernel). x.node.limit ≤ most_instructions) s.shows s.sound.small.limit)
 
   pub spent-small : instructions_in_all o.node ≤ o.node.limit
-  spent-small = le-told t (λ s. subst (λ (x : OneKernel). instructions_in_all x.node ≤ x.node.limit) s.shows s.coherent.numbers.limit)
+  spent-small = le-told t (λ s. subst (λ (x : OneKernel). instructions_in_all x.node ≤ x.node.limit) s.shows s.sound.coherent.numbers.limit)
 
   -- the threads that are Called are those with a call
   pub called-are : (k : ℕ) (x : Thread) → at o.node.threads k ≡ Some x → is_called x.does ≡ has_call (one_here o x.process) k
   called-are k x e = bool-told t (λ s. subst (λ (y : OneKernel). at y.node.threads k ≡ Some x → is_called x.does ≡ has_call (one_here y x.process) k) s.shows
-      (λ there. (s.coherent.whole x.process).calls.called k x there refl ∙ go s (at s.pair.sides x.process) refl) e)
+      (λ there. (s.sound.coherent.whole x.process).calls.called k x there refl ∙ go s (at s.pair.sides x.process) refl) e)
     where
       go : (s : Shows o) (side : Option Side) → at s.pair.sides x.process ≡ side → is_some (at (unwrap_or (at s.pair.sides x.process) (new_side 0)).lwk.callers k) ≡ has_call (one_here (one s.pair) x.process) k
       go s None is =

@@ -16,7 +16,7 @@ use Rattle.one_kernel.proofs.Facts.{frames-fit}
 use Rattle.one_kernel.proofs.Told.{le-told}
 use Rattle.one_kernel.specs.Due.{HeapFits}
 use Rattle.one_kernel.specs.Parts.{one_of, shown_own}
-use Rattle.one_kernel.specs.Shown.{IsShown}
+use Rattle.node_machine.specs.Reached.{IsShown}
 use Rattle.one_kernel.specs.declared.parts.One.{One}
 use Rattle.one_kernel.specs.declared.parts.Own.{Own}
 use Rattle.std.proofs.Common.{ap, arith, refl, subst, ◌∙◌}
@@ -38,12 +38,12 @@ told-fits t (Brk a) f = le-told t f
 module _ (o : OneKernel) (shown : IsShown o) where
   told-heap : (p : ℕ) → HeapFits (process_of o.node p)
   told-heap p = record {
-    base = le-told shown (λ s. subst (λ (y : OneKernel). (process_of y.node p).heap_base ≤ highest) s.shows (low-heap s.pair.node p s.small.memory));
-    limit = le-told shown (λ s. subst (λ (y : OneKernel). (process_of y.node p).program_break ≤ (process_of y.node p).heap_base + most_heap) s.shows (low-break s.pair.node p s.coherent.heaps));
+    base = le-told shown (λ s. subst (λ (y : OneKernel). (process_of y.node p).heap_base ≤ highest) s.shows (low-heap s.pair.node p s.sound.small.memory));
+    limit = le-told shown (λ s. subst (λ (y : OneKernel). (process_of y.node p).program_break ≤ (process_of y.node p).heap_base + most_heap) s.shows (low-break s.pair.node p s.sound.coherent.heaps));
   }
 
   pub told-change : (t : ℕ) (c : Change) → change_in (thread_of o.node t).does ≡ Some c → ChangeFits c
-  told-change t c e = told-fits shown c (λ s. subst (λ (y : OneKernel). change_in (thread_of y.node t).does ≡ Some c → ChangeFits c) s.shows (wanted-fits s.pair.node t c s.small.memory) e)
+  told-change t c e = told-fits shown c (λ s. subst (λ (y : OneKernel). change_in (thread_of y.node t).does ≡ Some c → ChangeFits c) s.shows (wanted-fits s.pair.node t c s.sound.small.memory) e)
 
 -- whatever the files are
 pub heap-in : (x : One) (p : ℕ) → IsShown (one_of x) → (files : Files) → HeapFits (process_of (node_of x.node files) p)

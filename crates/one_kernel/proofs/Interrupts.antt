@@ -10,7 +10,7 @@ use Rattle.one_kernel.proofs.After.{here-is, row-there}
 use Rattle.one_kernel.proofs.Calling.{both, own-called, rests-not}
 use Rattle.one_kernel.proofs.Facts.{called-are, thread-own}
 use Rattle.one_kernel.specs.Parts.{here_in, one_of, shown_call}
-use Rattle.one_kernel.specs.Shown.{IsShown}
+use Rattle.node_machine.specs.Reached.{IsShown}
 use Rattle.one_kernel.specs.declared.calls.Call.{Call}
 use Rattle.one_kernel.specs.declared.parts.One.{One}
 use Rattle.one_kernel.specs.declared.parts.Own.{Own}

@@ -18,7 +18,7 @@ use Rattle.one_calls.specs.Resting.{MayClone, MayFork, MayRest}
 use Rattle.one_kernel.proofs.Facts.{living-has, next-small}
 use Rattle.one_kernel.proofs.Told.{bool-told, lt-told}
 use Rattle.one_kernel.specs.Parts.{one_of}
-use Rattle.one_kernel.specs.Shown.{IsShown}
+use Rattle.node_machine.specs.Reached.{IsShown}
 use Rattle.one_kernel.specs.declared.parts.One.{One}
 use Rattle.mck_word.specs.Maps.{at}
 use Rattle.std.proofs.Common.{ap, arith, inl, inr, refl, subst, sym, ◌∙◌}
@@ -137,13 +137,13 @@ module _ (node : KernelNode) (sleeping : Sleeping node) (places : Places node) (
 module _ (o : OneKernel) (shown : IsShown o) (t : ℕ) (may : may_trap o.node t ≡ true) where
   pub told-awake : list_any (λ s. s.thread == t) o.node.sleepers ≡ false
   told-awake = bool-told shown (λ k. subst (λ (y : OneKernel). may_trap y.node t ≡ true → list_any (λ s. s.thread == t) y.node.sleepers ≡ false) k.shows
-      (λ m. let x = may-traps k.pair.node t m in sleeps-nowhere k.pair.node k.coherent.sleeping k.coherent.places t x.thread x.there (ap is_asleep x.stopped)) may)
+      (λ m. let x = may-traps k.pair.node t m in sleeps-nowhere k.pair.node k.sound.coherent.sleeping k.sound.coherent.places t x.thread x.there (ap is_asleep x.stopped)) may)
 
   pub told-few : (address : ℕ) → length (waiters o.node (thread_of o.node t).process address) < most_threads
   told-few address = lt-told shown (λ k. subst (λ (y : OneKernel). may_trap y.node t ≡ true → length (waiters y.node (thread_of y.node t).process address) < most_threads) k.shows
       (λ m. let x = may-traps k.pair.node t m in
       subst (λ p. length (waiters k.pair.node p address) < most_threads) (ap (λ (z : Thread). z.process) (sym (thread-is k.pair.node t x.thread x.there)))
-      (few-sleep k.pair.node k.coherent.sleeping k.coherent.places t x.thread x.there (ap is_asleep x.stopped) address)) may)
+      (few-sleep k.pair.node k.sound.coherent.sleeping k.sound.coherent.places t x.thread x.there (ap is_asleep x.stopped) address)) may)
 
 -- whatever the files are
 pub may-rest : (x : One) (t : ℕ) → IsShown (one_of x) → may_trap (one_of x).node t ≡ true → 1 ≤ x.node.sleepers.spare → MayRest x.node t

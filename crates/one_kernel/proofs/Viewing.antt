@@ -6,7 +6,7 @@ use Rattle.one_files.specs.Seen.{seen}
 use Rattle.one_kernel.proofs.After.{row-there}
 use Rattle.one_kernel.proofs.Facts.{thread-own}
 use Rattle.one_kernel.specs.Parts.{one_of, shown_call}
-use Rattle.one_kernel.specs.Shown.{IsShown}
+use Rattle.node_machine.specs.Reached.{IsShown}
 use Rattle.one_kernel.specs.declared.parts.One.{One}
 use Rattle.one_kernel.specs.declared.parts.Own.{Own}
 use Rattle.std.proofs.Common.{ap, sym, ◌∙◌}

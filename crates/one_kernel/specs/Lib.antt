@@ -3,7 +3,6 @@ pub mod Due
 pub mod Parts
 pub mod Ready
 pub mod Rooms
-pub mod Shown
 pub mod Standings
 pub mod StepRooms
 pub mod Summed

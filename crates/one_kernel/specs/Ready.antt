@@ -2,7 +2,7 @@
 use Rattle.kernel_model.specs.OneKernel.{OneKernel}
 use Rattle.kernel_model.specs.Steps.{may}
 use Rattle.kernel_model.specs.declared.steps.Step.{Step}
-use Rattle.one_kernel.specs.Shown.{IsShown}
+use Rattle.node_machine.specs.Reached.{IsShown}
 use Rattle.std.specs.Prelude.{true, ◌≡◌}
 
 pub record Ready (o : OneKernel) (s : Step) : Type 0 where

@@ -4,7 +4,7 @@
 //! state; `go` leaves the state after the step, for each step that may happen in a state that two kernels show, where its room was made;
 //! `execute` is so many instructions one after another; `summary` is what a report says of the state. A step takes no memory and can't fail. The
 //! definitions stand in kernel_model (specs/OneKernel and Steps); what the parts show in specs/Parts, the states that two kernels show in
-//! specs/Shown, and the room for each step in specs/StepRooms.
+//! node_machine (specs/Reached), and the room for each step in specs/StepRooms. An audit drives it as a `SingleKernel` (node_machine).
 #![tactic(auto)]
 
 mod booting;
@@ -13,6 +13,7 @@ mod calls;
 mod changing;
 mod file_steps;
 mod going;
+mod machine;
 mod may;
 mod node_steps;
 mod parts;

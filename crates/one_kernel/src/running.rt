@@ -4,7 +4,7 @@ ghost use Rattle.kernel_model.specs.Traps.{does_after};
 ghost use Rattle.kernel_model.specs.declared.steps.Step.TheVariants.{Instr};
 ghost use Rattle.one_kernel.specs.Parts.{one_of};
 ghost use Rattle.one_kernel.specs.Ready.{Ready};
-ghost use Rattle.one_kernel.specs.Shown.{IsShown};
+ghost use Rattle.node_machine.specs.Reached.{IsShown};
 ghost use Rattle.std.specs.Prelude.{◌≡◌, replicate, true};
 
 use crate::parts::One;

@@ -6,7 +6,7 @@ ghost use Rattle.mck_word.specs.Maps.{at};
 ghost use Rattle.one_kernel.specs.Due.{HasChangeRoom, due};
 ghost use Rattle.one_kernel.specs.Parts.{one_of};
 ghost use Rattle.one_kernel.specs.Ready.{Ready};
-ghost use Rattle.one_kernel.specs.Shown.{IsShown};
+ghost use Rattle.node_machine.specs.Reached.{IsShown};
 ghost use Rattle.one_kernel.specs.Trapping.{calls_memory};
 ghost use Rattle.one_kernel.specs.declared.parts.Own.{Own as owns};
 ghost use Rattle.std.specs.Prelude.{◌≡◌, IsSome, OnOk, OnSome, Some, true};

@@ -15,9 +15,10 @@ use Rattle.mck_word.specs.Lists.{count_from}
 use Rattle.mck_word.specs.MapLaws.{at-put, same_rows}
 use Rattle.mck_word.specs.Maps.{Map, at, no_rows, put}
 use Rattle.mck_word.specs.Slots.{slots_from, by_place}
-use Rattle.pair_core.specs.Booting.{BootLacks, booted_in, guest_at, no_guests, node_with, pair_with}
-use Rattle.pair_core.specs.declared.boot_error.BootError.TheVariants.{NoFrames, NoMemory}
-use Rattle.pair_core.specs.declared.boot_error.BootError.{BootError}
+use Rattle.node_machine.specs.Booting.{BootFails}
+use Rattle.node_machine.specs.declared.boot_error.BootError.TheVariants.{NoFrames, NoMemory}
+use Rattle.node_machine.specs.declared.boot_error.BootError.{BootError}
+use Rattle.pair_core.specs.Booting.{booted_in, guest_at, no_guests, node_with, pair_with}
 use Rattle.std.proofs.Common.{ap, arith, refl, sym, ◌∙◌}
 use Rattle.std.proofs.lemmas.Bool.Decides.{nat_tests}
 use Rattle.std.specs.Prelude.{Bool, List, None, Option, Some, [], cond, false, fold, length, map, nat_lt, replicate, suc, true, zero, ℕ, ◌+◌, ◌-◌, ◌<◌, ◌==◌, ◌∷◌, ◌≡◌, ◌≤◌}
@@ -112,7 +113,7 @@ first-lacks : (b : Bool) (s t : Shortage) (more : Option Shortage) → cond b (S
 first-lacks true s t more e = e
 first-lacks false s t more e = absurd (grind (arith, e))
 
-pub lacks : (free : ℕ) (g : Guest) (gs : List Guest) (e : BootError) → BootLacks e (shortage_from free (g ∷ [])) → BootLacks e (shortage_from free (g ∷ gs))
+pub lacks : (free : ℕ) (g : Guest) (gs : List Guest) (e : BootError) → BootFails e (shortage_from free (g ∷ [])) → BootFails e (shortage_from free (g ∷ gs))
 lacks free g gs (NoFrames guest needed left) h =
     first-lacks (nat_lt free (needed_frames g.image)) (record { guest = g.number; needed = needed_frames g.image; free = free }) (record { guest = guest; needed = needed; free = left }) (shortage_from (free - needed_frames g.image) gs) h
 lacks free g gs NoMemory h = tt

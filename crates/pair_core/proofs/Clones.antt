@@ -7,7 +7,7 @@ use Rattle.kernel_model.specs.Traps.{may_trap}
 use Rattle.kernel_tables.specs.Shown.{node_of}
 use Rattle.lwk_side.specs.Cloning.{MayClone}
 use Rattle.mck_word.specs.Maps.{Map}
-use Rattle.pair_core.specs.Ready.{IsSound}
+use Rattle.node_machine.specs.Reached.{IsSound}
 use Rattle.pair_core.specs.Shown.{pair_of}
 use Rattle.pair_core.specs.declared.parts.Parts.{Parts}
 use Rattle.std.proofs.Common.{arith}

@@ -14,7 +14,8 @@ use Rattle.mck_word.specs.Maps.{Map, at, put}
 use Rattle.pair_core.proofs.FewCalls.{few-calls}
 use Rattle.pair_core.proofs.Found.{here-is, may-here, of-process}
 use Rattle.pair_core.specs.Kept.{Kept, Takes}
-use Rattle.pair_core.specs.Ready.{IsSound, Ready}
+use Rattle.node_machine.specs.Reached.{IsSound}
+use Rattle.pair_core.specs.Ready.{Ready}
 use Rattle.pair_core.specs.Shown.{here_in, pair_of}
 use Rattle.pair_core.specs.declared.parts.Parts.{Parts}
 use Rattle.pair_core.specs.declared.parts.Side.{Side}

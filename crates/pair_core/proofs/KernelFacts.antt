@@ -23,7 +23,7 @@ use Rattle.pair_core.proofs.Found.{here-is}
 use Rattle.offer_laws.proofs.Sizes.{frame-count-stays}
 use Rattle.kernel_tables.specs.Shown.{node_of}
 use Rattle.pair_core.specs.Kept.{Kept, Takes}
-use Rattle.pair_core.specs.Ready.{IsSound}
+use Rattle.node_machine.specs.Reached.{IsSound}
 use Rattle.pair_core.specs.Shown.{here_in, pair_of, shown_side}
 use Rattle.pair_core.specs.declared.parts.Parts.{Parts}
 use Rattle.pair_core.specs.declared.parts.Side.{Side}

@@ -19,3 +19,4 @@ pub mod Sleepers
 pub mod Clones
 pub mod Memory
 pub mod Begins
+pub mod MayThere

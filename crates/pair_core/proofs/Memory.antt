@@ -20,7 +20,7 @@ use Rattle.mck_word.specs.Maps.{Map, at}
 use Rattle.offer_laws.specs.ChangeFits.{NodeFits}
 use Rattle.pair_core.proofs.Fetched.{first-some}
 use Rattle.pair_core.specs.KernelRoom.{is_ack_first}
-use Rattle.pair_core.specs.Ready.{IsSound}
+use Rattle.node_machine.specs.Reached.{IsSound}
 use Rattle.pair_core.specs.Shown.{pair_of}
 use Rattle.pair_core.specs.declared.parts.Parts.{Parts}
 use Rattle.std.proofs.Common.{ap, arith, refl, subst, sym, ◌∙◌}

@@ -1,5 +1,5 @@
 -- The boot, guest by guest: the two kernels before the first guest, and with a guest more.
-use Rattle.hybrid_model.specs.Boot.{Booted, Shortage, with_guest, zero_frames}
+use Rattle.hybrid_model.specs.Boot.{Booted, with_guest, zero_frames}
 use Rattle.hybrid_model.specs.Pairs.{Pair}
 use Rattle.job_model.specs.declared.image.Image.{Image}
 use Rattle.job_model.specs.declared.job.GuestLine.{GuestLine}
@@ -8,14 +8,7 @@ use Rattle.kernel_model.specs.Nodes.{Node, Thread}
 use Rattle.kernel_model.specs.OneKernel.{Guest, boot_files, first_free_number, guest_process, guest_thread, script_lines}
 use Rattle.mck_word.specs.Lists.{count_from}
 use Rattle.mck_word.specs.Maps.{at, no_rows, put}
-use Rattle.pair_core.specs.declared.boot_error.BootError.TheVariants.{NoFrames, NoMemory}
-use Rattle.pair_core.specs.declared.boot_error.BootError.{BootError}
-use Rattle.std.specs.Prelude.{None, Option, Some, [], ℕ, ◌≡◌, ◌≤◌}
-
--- only for the first shortage of frames, and want of memory is free
-abbrev pub BootLacks : BootError → Option Shortage → Type 0
-BootLacks (NoFrames guest needed free) lack = lack ≡ Some (record { guest = guest; needed = needed; free = free })
-BootLacks NoMemory lack = Unit {0}
+use Rattle.std.specs.Prelude.{None, Some, [], ℕ, ◌≡◌, ◌≤◌}
 
 abbrev pub guest_at : ℕ → GuestLine → Image → Guest
 guest_at n line image = record { number = n; arguments = line.args; image = image }

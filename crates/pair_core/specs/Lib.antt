@@ -5,3 +5,4 @@ pub mod LinuxRoom
 pub mod Newborn
 pub mod Ready
 pub mod Shown
+pub mod There

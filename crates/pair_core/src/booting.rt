@@ -8,11 +8,11 @@ ghost use Rattle.kernel_model.specs.OneKernel.{boot_files as files_of_job, guest
 ghost use Rattle.kernel_tables.specs.Shown.{node_of};
 ghost use Rattle.lwk_space.specs.Frames.{frames_map};
 ghost use Rattle.mck_word.specs.Maps.{no_rows};
-ghost use Rattle.pair_core.specs.Booting.{BootLacks, IsBefore, guest_at, no_guests, pair_with};
+ghost use Rattle.node_machine.specs.Booting.{BootFails};
+ghost use Rattle.pair_core.specs.Booting.{IsBefore, guest_at, no_guests, pair_with};
 ghost use Rattle.pair_core.specs.Kept.{Kept};
 ghost use Rattle.pair_core.specs.Shown.{pair_of};
 
-use crate::boot_error::BootError;
 use crate::boot_files::boot_files;
 use crate::boot_guests::{guest_side, put_guest, reserve_guest};
 use crate::boot_script::boot_script;
@@ -26,6 +26,7 @@ use key_rows::Rows;
 use lwk_boot::{load_guest, needed_frames};
 use lwk_side::{Last, Lwk};
 use mck_word::NoMemory;
+use node_machine::BootError;
 use page_map::PageTable;
 use proxy_worker::Turns;
 use rv64i_user::KnownWords;
@@ -138,7 +139,7 @@ impl<T: PageTable + Drop, F: JobFiles> Parts<T, F> {
         ensures state { OnOk result (pair_of T.rows F.files self.new ≡ pair_with (pair_of T.rows F.files self.old) (guest_at number line.now image.now)) }
         ensures kept { OnOk result (Kept self.new) }
         ensures left { OnOk result (length self.new.lwk.pool.free + needed_by image.now ≡ length self.old.lwk.pool.free) }
-        ensures frames { MatchResult result (λ _. shortage_from (length self.old.lwk.pool.free) (guest_at number line.now image.now ∷ []) ≡ None) (λ e. BootLacks e (shortage_from (length self.old.lwk.pool.free) (guest_at number line.now image.now ∷ []))) }
+        ensures frames { MatchResult result (λ _. shortage_from (length self.old.lwk.pool.free) (guest_at number line.now image.now ∷ []) ≡ None) (λ e. BootFails e (shortage_from (length self.old.lwk.pool.free) (guest_at number line.now image.now ∷ []))) }
     {
         let needed = needed_frames(image);
         let free = self.lwk.pool.free();
@@ -168,7 +169,7 @@ impl<T: PageTable + Drop, F: JobFiles> Parts<T, F> {
         requires images { All IsImage images.now }
         ensures state { OnOk result (pair_of T.rows F.files self.new ≡ fold pair_with (pair_of T.rows F.files self.old) (guests_from 1 lines.now images.now)) }
         ensures kept { OnOk result (Kept self.new) }
-        ensures frames { MatchResult result (λ _. shortage_from (length self.old.lwk.pool.free) (guests_from 1 lines.now images.now) ≡ None) (λ e. BootLacks e (shortage_from (length self.old.lwk.pool.free) (guests_from 1 lines.now images.now))) }
+        ensures frames { MatchResult result (λ _. shortage_from (length self.old.lwk.pool.free) (guests_from 1 lines.now images.now) ≡ None) (λ e. BootFails e (shortage_from (length self.old.lwk.pool.free) (guests_from 1 lines.now images.now))) }
     {
         let mut number = 1u32;
         let mut rest = lines;
@@ -190,7 +191,7 @@ impl<T: PageTable + Drop, F: JobFiles> Parts<T, F> {
         requires { IsPrepared job.now images.now }
         ensures state { IfOk result (λ x. pair_of T.rows F.files x ≡ boot job.now images.now) }
         ensures kept { IfOk result (λ x. Kept x) }
-        ensures frames { MatchResult result (λ _. shortage job.now images.now ≡ None) (λ e. BootLacks e (shortage job.now images.now)) }
+        ensures frames { MatchResult result (λ _. shortage job.now images.now ≡ None) (λ e. BootFails e (shortage job.now images.now)) }
     {
         let mut parts: Self = Self::without_guests(alloc, job, images)?;
         match parts.add_guests(alloc, job.guests.as_slice(), images) {

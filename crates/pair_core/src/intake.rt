@@ -3,7 +3,8 @@ ghost use Rattle.hybrid_model.specs.Events.{after};
 ghost use Rattle.hybrid_model.specs.declared.events.Event.TheVariants.{Intake};
 ghost use Rattle.pair_core.specs.Kept.{Kept};
 ghost use Rattle.pair_core.specs.KernelRoom.{HasKernelRoom, is_ack_first};
-ghost use Rattle.pair_core.specs.Ready.{IsSound, Ready};
+ghost use Rattle.node_machine.specs.Reached.{IsSound};
+ghost use Rattle.pair_core.specs.Ready.{Ready};
 ghost use Rattle.pair_core.specs.Shown.{pair_of};
 ghost use Rattle.std.specs.Prelude.{◌+◌, ◌<◌, ◌≡◌, OnOk, Some};
 

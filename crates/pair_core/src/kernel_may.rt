@@ -68,7 +68,7 @@ impl<T: PageTable + Drop, F: FileStore> Parts<T, F> {
     }
 
     /// Whether the event is of the lightweight kernel and may happen in the process.
-    fn may_in(&self, side: &Side<T>, event: Event) -> bool
+    pub(crate) fn may_in(&self, side: &Side<T>, event: Event) -> bool
         requires { 1 ≤ self.now.lwk.cores }
         ensures { result ≡ (not (is_of_linux event) && may_here event (here_in T.rows F.files self.now side.now)) }
     {

@@ -2,7 +2,7 @@
 ghost use Rattle.hybrid_model.specs.declared.events.Event.TheVariants.{BeginVm, Intake, Trap};
 ghost use Rattle.pair_core.specs.Kept.{Kept};
 ghost use Rattle.pair_core.specs.KernelRoom.{HasKernelRoom};
-ghost use Rattle.pair_core.specs.Ready.{IsSound};
+ghost use Rattle.node_machine.specs.Reached.{IsSound};
 ghost use Rattle.pair_core.specs.Shown.{pair_of};
 ghost use Rattle.std.specs.Prelude.{◌+◌, ◌<◌, ◌≡◌, OnOk};
 

@@ -45,7 +45,7 @@ fn process_of(event: Event) -> Option<Pid>
 #[tactic(auto, unfolding(kernel_tables::specs::Shown::node_of))]
 impl<T: PageTable + Drop, F: FileStore> Parts<T, F> {
     /// Whether the event is of the Linux side and may happen in the process.
-    fn may_on(&self, side: &Side<T>, event: Event) -> bool
+    pub(crate) fn may_on(&self, side: &Side<T>, event: Event) -> bool
         ensures { result ≡ (is_of_linux event && may_here event (here_in T.rows F.files self.now side.now)) }
     {
         let proxy = &side.proxy;

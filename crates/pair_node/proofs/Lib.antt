@@ -12,3 +12,4 @@ pub mod Moves
 pub mod FromLists
 pub mod Relisted
 pub mod Standing
+pub mod Offering

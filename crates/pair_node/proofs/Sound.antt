@@ -9,8 +9,9 @@ use Rattle.hybrid_model.specs.declared.events.Event.{Event}
 use Rattle.job_model.specs.Prepared.{IsPrepared}
 use Rattle.job_model.specs.declared.image.Image.{Image}
 use Rattle.job_model.specs.declared.job.Job.{Job}
+use Rattle.node_machine.specs.Reached.{IsSound}
 use Rattle.offer_laws.proofs.Small.{boot-small, small-after}
-use Rattle.pair_core.specs.Ready.{IsSound, Ready}
+use Rattle.pair_core.specs.Ready.{Ready}
 use Rattle.std.proofs.Common.{subst, sym}
 use Rattle.std.proofs.Math.Logic.{∥∥₁_map}
 use Rattle.std.specs.Prelude.{List, None, ◌≡◌}

@@ -1,23 +1,21 @@
 // What a run asks of the parts.
-ghost use Rattle.hybrid_model.specs.Journals.{runs_on};
+ghost use Rattle.hybrid_model.specs.Journals.{ending_of_run, runs_on};
 ghost use Rattle.hybrid_model.specs.Workers.{has_pin, holds};
-ghost use Rattle.hybrid_model.specs.Pairs.{side_of};
 ghost use Rattle.kernel_model.specs.Nodes.{Process as KernelProcess, ScriptLine as KernelLine, has_ended, is_living, ready_to_run};
-ghost use Rattle.key_rows.specs.Table.{key_from};
 ghost use Rattle.mck_word.specs.Maps.{at, each_row, some_row};
 ghost use Rattle.pair_core.specs.Shown.{pair_of};
-ghost use Rattle.pair_offers.specs.Seeking.{request_number, thread_number};
-ghost use Rattle.pair_offers.specs.Stances.{stance_of};
+ghost use Rattle.pair_offers.specs.Seeking.{thread_number};
 ghost use Rattle.pair_offers.specs.declared.stance.Stance.TheVariants.{Holding, Other, Pinned};
 ghost use Rattle.proxy_worker.specs.Shown.{linux_of};
 ghost use Rattle.std.specs.List.{list_all, list_any};
 ghost use Rattle.std.specs.Prelude.{◌&&◌, ◌≡◌, ◌-◌, ◌<◌, ◌^◌, IfSome, cond, option_map, slice_get};
 
 use file_calls::store::FileStore;
+use hybrid_model::Ending;
 use kernel_model::{Does, Life};
 use kernel_tables::{Process, ScriptLine};
 use lwk_threads::Thread;
-use mck_word::{Pid, Req, Tid};
+use mck_word::Tid;
 use page_map::PageTable;
 use pair_core::Parts;
 use pair_offers::Stance;
@@ -33,21 +31,8 @@ pub fn last<T: PageTable + Drop, F: FileStore>(parts: &Parts<T, F>, core: u32) -
     Some(Tid(t))
 }
 
-/// The lowest request of the process from there on.
-pub fn next_request<T: PageTable + Drop, F: FileStore>(
-    parts: &Parts<T, F>,
-    p: Pid,
-    from: Req,
-) -> Option<Req>
-    ensures { option_map request_number result ≡ key_from (side_of (pair_of T.rows F.files parts.now) p.0).book.rows from.0 }
-{
-    match parts.sides.get(p.0 as u64) {
-        Some(side) => side.channel.book.next(from),
-        None => None,
-    }
-}
-
-fn stance_at(proxy: &Proxy, book: &Book, w: u32) -> Stance
+/// How a worker stands, by its proxy and the book of its process.
+pub fn stance_at(proxy: &Proxy, book: &Book, w: u32) -> Stance
     ensures { result ≡ cond (has_pin (linux_of proxy.now) w) Pinned (cond (holds (linux_of proxy.now) book.now.requests w) Holding Other) }
 {
     if proxy.has_pin(w) {
@@ -56,16 +41,6 @@ fn stance_at(proxy: &Proxy, book: &Book, w: u32) -> Stance
         Stance::Holding
     } else {
         Stance::Other
-    }
-}
-
-/// How the worker of the process stands.
-pub fn stance<T: PageTable + Drop, F: FileStore>(parts: &Parts<T, F>, p: Pid, w: u32) -> Stance
-    ensures { result ≡ stance_of (side_of (pair_of T.rows F.files parts.now) p.0) w }
-{
-    match parts.sides.get(p.0 as u64) {
-        Some(side) => stance_at(&side.proxy, &side.channel.book, w),
-        None => Stance::Other,
     }
 }
 
@@ -98,7 +73,7 @@ fn all_ended(rows: &[(u64, Process)]) -> bool
 }
 
 /// Whether each process has ended.
-pub fn all_have_ended<T: PageTable + Drop, F: FileStore>(parts: &Parts<T, F>) -> bool
+fn all_have_ended<T: PageTable + Drop, F: FileStore>(parts: &Parts<T, F>) -> bool
     ensures { result ≡ each_row (λ p (x : KernelProcess). has_ended x.life) (pair_of T.rows F.files parts.now).node.processes }
 {
     all_ended(parts.lwk.node.processes.rows())
@@ -121,8 +96,21 @@ fn some_of<T: PageTable + Drop, F: FileStore>(
 }
 
 /// Whether a thread of a living process is ready to run.
-pub fn some_runs_on<T: PageTable + Drop, F: FileStore>(parts: &Parts<T, F>) -> bool
+fn some_runs_on<T: PageTable + Drop, F: FileStore>(parts: &Parts<T, F>) -> bool
     ensures { result ≡ some_row (runs_on (pair_of T.rows F.files parts.now)) (pair_of T.rows F.files parts.now).node.threads }
 {
     some_of(parts, parts.lwk.node.threads.rows())
+}
+
+/// How the run stands where no actor has an offer.
+pub fn ending_of_run<T: PageTable + Drop, F: FileStore>(parts: &Parts<T, F>) -> Ending
+    ensures { result ≡ ending_of_run (pair_of T.rows F.files parts.now) }
+{
+    if all_have_ended(parts) {
+        Ending::Done
+    } else if some_runs_on(parts) {
+        Ending::Limit
+    } else {
+        Ending::Stalled
+    }
 }

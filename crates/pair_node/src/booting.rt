@@ -4,7 +4,7 @@ ghost use Rattle.hybrid_model.specs.Boot.{boot, shortage};
 ghost use Rattle.job_model.specs.Prepared.{IsPrepared};
 ghost use Rattle.kernel_tables.specs.Shown.{node_of};
 ghost use Rattle.mck_word.specs.Maps.{keys};
-ghost use Rattle.pair_core.specs.Booting.{BootLacks};
+ghost use Rattle.node_machine.specs.Booting.{BootFails};
 ghost use Rattle.pair_core.specs.Shown.{pair_of};
 ghost use Rattle.std.specs.Prelude.{◌≡◌, IfOk, MatchResult, None, map};
 
@@ -14,8 +14,9 @@ use job_files::JobFiles;
 use job_model::{Image, Job};
 use kernel_tables::KernelTables;
 use mck_word::{NoMemory, Pid};
+use node_machine::BootError;
 use page_map::PageTable;
-use pair_core::{BootError, Parts};
+use pair_core::Parts;
 use std::alloc::Global;
 
 /// The numbers of the processes, rising.
@@ -36,7 +37,7 @@ impl<T: PageTable + Drop, F: JobFiles> Pair<T, F> {
     pub fn boot(alloc: Global, job: &Job, images: &[Image]) -> Result<Self, BootError>
         requires { IsPrepared job.now images.now }
         ensures state { IfOk result (λ x. pair_of T.rows F.files x.parts ≡ boot job.now images.now) }
-        ensures frames { MatchResult result (λ _. shortage job.now images.now ≡ None) (λ e. BootLacks e (shortage job.now images.now)) }
+        ensures frames { MatchResult result (λ _. shortage job.now images.now ≡ None) (λ e. BootFails e (shortage job.now images.now)) }
     {
         let parts: Parts<T, F> = Parts::boot(alloc, job, images)?;
         let pids = numbers(alloc, &parts.lwk.node)?;

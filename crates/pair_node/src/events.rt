@@ -1,6 +1,6 @@
 // The events, each as a method of the parts.
 ghost use Rattle.hybrid_model.specs.Events.{after};
-ghost use Rattle.mcexec_run.specs.Auditing.{executed};
+ghost use Rattle.node_machine.specs.Stepping.{executed};
 ghost use Rattle.pair_core.specs.Kept.{Kept};
 ghost use Rattle.pair_core.specs.Ready.{Ready};
 ghost use Rattle.pair_core.specs.Shown.{pair_of};

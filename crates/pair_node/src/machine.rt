@@ -1,74 +1,26 @@
 // The node as the machine that a walk drives.
-ghost use Rattle.pair_core.specs.Booting.{BootLacks};
-ghost use Rattle.mcexec_run.specs.Booting.{BootFails};
-ghost use Rattle.hybrid_model.specs.Boot.{Shortage};
-ghost use Rattle.pair_core.specs.Shown.{pair_of};
 ghost use Rattle.pair_node.specs.Room.{HasListPlace, HasPlace, HasRoom};
-ghost use Rattle.std.specs.Prelude.{Option, ◌-◌, vec_len};
+ghost use Rattle.std.specs.Prelude.{◌-◌, vec_len};
 ghost use Rattle.std.specs.Vec.{vec_capacity};
 
+use crate::asked::ending_of_run;
 use crate::pair::Pair;
-use elf_load::Image;
-use file_calls::store::FileStore;
 use hybrid_model::{Ending, Event};
-use ihk_parts::{Actor, Offers};
 use job_files::JobFiles;
-use job_text::Job;
+use job_model::{Image, Job};
 use kernel_model::Step;
-use mcexec_run::{BootError, Machine};
-use mck_word::{NoMemory, Pid};
+use mck_word::NoMemory;
+use node_machine::{BootError, Machine};
 use offer_laws::offers_may;
 use page_map::PageTable;
-use pair_offers::Inspect;
 use run_summary::Summary;
 use std::alloc::Global;
-
-impl<T: PageTable + Drop, F: FileStore> Offers for Pair<T, F> {
-    ghost pair = { λ x. pair_of T.rows F.files x.parts };
-
-    fn cores(&self) -> u32 {
-        Inspect::cores(self)
-    }
-
-    fn workers(&self) -> u32 {
-        Inspect::workers(self)
-    }
-
-    fn processes(&self) -> &[Pid] {
-        Inspect::processes(self)
-    }
-
-    fn offer(&self, actor: Actor) -> Option<Event> {
-        pair_offers::offer(self, actor)
-    }
-}
-
-/// Why a boot of the parts failed, as a boot of the machine.
-fn boot_error(error: pair_core::BootError) -> BootError
-    ensures { (lack : Option Shortage) → BootLacks error lack → BootFails result lack }
-{
-    match error {
-        pair_core::BootError::NoFrames {
-            guest,
-            needed,
-            free,
-        } => BootError::NoFrames {
-            guest,
-            needed,
-            free,
-        },
-        pair_core::BootError::NoMemory => BootError::NoMemory,
-    }
-}
 
 impl<T: PageTable + Drop, F: JobFiles> Machine for Pair<T, F> {
     ghost has_room = { λ x e. HasRoom T.rows T.has_room F.room F.can_write F.files e x.parts × HasPlace e (vec_capacity x.pids - vec_len x.pids) × HasListPlace e x.members };
 
     fn boot(alloc: Global, job: &Job, images: &[Image]) -> Result<Self, BootError> {
-        match Pair::boot(alloc, job, images) {
-            Ok(pair) => Ok(pair),
-            Err(e) => Err(boot_error(e)),
-        }
+        Pair::boot(alloc, job, images)
     }
 
     fn make_room(&mut self, event: &Event) -> Result<(), NoMemory> {
@@ -93,7 +45,7 @@ impl<T: PageTable + Drop, F: JobFiles> Machine for Pair<T, F> {
     }
 
     fn ending(&self) -> Ending {
-        pair_offers::ending(self)
+        pair_offers::ending(self, ending_of_run(&self.parts))
     }
 
     fn requests(&self) -> u64 {

@@ -1,9 +1,9 @@
 // The parts of the two kernels in a state that they reach.
 ghost use Rattle.hybrid_model.specs.Events.{after, may};
 ghost use Rattle.mck_word.specs.Maps.{keys};
-ghost use Rattle.mcexec_run.specs.Auditing.{IsReached, executed};
 ghost use Rattle.pair_core.specs.Kept.{Kept};
-ghost use Rattle.pair_core.specs.Ready.{IsSound};
+ghost use Rattle.node_machine.specs.Reached.{IsReached, IsSound};
+ghost use Rattle.node_machine.specs.Stepping.{executed};
 ghost use Rattle.pair_core.specs.Shown.{pair_of};
 ghost use Rattle.pair_node.specs.Listed.{IsListed};
 ghost use Rattle.pair_node.specs.Room.{HasListPlace, HasPlace, HasRoom};

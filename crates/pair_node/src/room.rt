@@ -1,7 +1,7 @@
 // Room for the events.
 ghost use Rattle.pair_core.specs.Kept.{Kept};
 ghost use Rattle.pair_core.specs.LinuxRoom.{HasLinuxRoom};
-ghost use Rattle.pair_core.specs.Ready.{IsSound};
+ghost use Rattle.node_machine.specs.Reached.{IsSound};
 ghost use Rattle.pair_core.specs.Shown.{pair_of};
 ghost use Rattle.pair_node.specs.Room.{HasListPlace, HasLwkRoom, HasPlace};
 ghost use Rattle.std.specs.Prelude.{◌≡◌, ◌-◌, OnOk, vec_len};

@@ -2,6 +2,8 @@ pub mod Above
 pub mod First
 pub mod Left
 pub mod Between
-pub mod Asked
+pub mod OnCore
 pub mod Offered
+pub mod Threads
+pub mod Nowhere
 pub mod Ended

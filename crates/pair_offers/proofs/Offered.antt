@@ -2,33 +2,32 @@
 use Rattle.hybrid_model.specs.Events.{may}
 use Rattle.hybrid_model.specs.Pairs.{Pair, side_of}
 use Rattle.hybrid_model.specs.declared.events.Event.{Event}
-use Rattle.hybrid_model.specs.declared.events.Event.TheVariants.{AckClear, Answer, Assign, BeginVm, Fetch, Intake, Interrupt, Reap, Unpark, Wait}
-use Rattle.mck_word.specs.Identifiers.{req, tid}
+use Rattle.hybrid_model.specs.declared.events.Event.TheVariants.{AckClear, Answer, Assign, Fetch, Intake, Reap, Unpark}
+use Rattle.mck_word.specs.Identifiers.{req}
 use Rattle.mck_word.specs.Lists.{count_from}
 use Rattle.mck_word.specs.Maps.{at, keys}
 use Rattle.mck_word.specs.declared.Pid.{Pid}
 use Rattle.pair_offers.proofs.Above.{all-above}
 use Rattle.pair_offers.proofs.Between.{none-above-first}
-use Rattle.pair_offers.proofs.First.{event-by, find-kept, found-behind, found-first}
-use Rattle.pair_offers.specs.Seeking.{event_of, first_by, is_thread_of, is_up_to, sought}
+use Rattle.pair_offers.proofs.First.{event-by, found-behind, found-first}
+use Rattle.pair_offers.specs.Seeking.{begins, event_of, events_of_threads, first_by, interrupts, is_up_to, waits}
 use Rattle.pair_offers.specs.declared.seeking.Numbered.{Numbered}
-use Rattle.pair_offers.specs.declared.seeking.Wanted.TheVariants.{ToBegin, ToInterrupt, ToRun, ToWait}
-use Rattle.run_model.specs.Walks.{core_event, core_offer, first_event, is_above_last, kernel_offer, linux_offer, thread_numbers}
+use Rattle.run_model.specs.Walks.{core_event, core_offer, first_event, is_above_last, kernel_offer, linux_offer}
 use Rattle.std.proofs.Common.{append_assoc, ap, sym, ◌∙◌}
 use Rattle.std.specs.Prelude.{List, None, Option, Some, [], filter, find, map, ℕ, ◌++◌, ◌∷◌, ◌≡◌}
 
 -- ---- cores
 module _ (pair : Pair) (core : ℕ) (last : Option ℕ) (own : last ≡ at pair.last core) where
-  above-last : first_event pair core (filter (is_above_last (at pair.last core)) (keys pair.node.threads)) ≡ first_by (sought pair (ToRun core)) (filter (is_above_last last) (keys pair.node.threads))
+  above-last : first_event pair core (filter (is_above_last (at pair.last core)) (keys pair.node.threads)) ≡ first_by (core_event pair core) (filter (is_above_last last) (keys pair.node.threads))
   above-last =
       event-by pair core (filter (is_above_last (at pair.last core)) (keys pair.node.threads))
       ∙ ap (λ (o : Option ℕ). first_by (core_event pair core) (filter (is_above_last o) (keys pair.node.threads))) (sym own)
 
-  pub core-some : (e : Event) → first_by (sought pair (ToRun core)) (filter (is_above_last last) (keys pair.node.threads)) ≡ Some e → core_offer pair core ≡ Some e
+  pub core-some : (e : Event) → first_by (core_event pair core) (filter (is_above_last last) (keys pair.node.threads)) ≡ Some e → core_offer pair core ≡ Some e
   core-some e h = ap (λ (o : Option Event). elim o as (λ _. Option Event) [ None ↦ first_event pair core (keys pair.node.threads) | Some d ↦ Some d ]) (above-last ∙ h)
 
-  module _ (none_above : first_by (sought pair (ToRun core)) (filter (is_above_last last) (keys pair.node.threads)) ≡ None) where
-    of-all : core_offer pair core ≡ first_by (sought pair (ToRun core)) (keys pair.node.threads)
+  module _ (none_above : first_by (core_event pair core) (filter (is_above_last last) (keys pair.node.threads)) ≡ None) where
+    of-all : core_offer pair core ≡ first_by (core_event pair core) (keys pair.node.threads)
     of-all =
         ap (λ (o : Option Event). elim o as (λ _. Option Event) [ None ↦ first_event pair core (keys pair.node.threads) | Some d ↦ Some d ]) (above-last ∙ none_above)
         ∙ event-by pair core (keys pair.node.threads)
@@ -37,19 +36,19 @@ module _ (pair : Pair) (core : ℕ) (last : Option ℕ) (own : last ≡ at pair.
     pub core-none : last ≡ None → core_offer pair core ≡ None
     core-none e =
         of-all
-        ∙ (ap (λ (ks : List ℕ). first_by (sought pair (ToRun core)) ks) (sym (all-above (keys pair.node.threads)))
-        ∙ (ap (λ (o : Option ℕ). first_by (sought pair (ToRun core)) (filter (is_above_last o) (keys pair.node.threads))) (sym e) ∙ none_above))
+        ∙ (ap (λ (ks : List ℕ). first_by (core_event pair core) ks) (sym (all-above (keys pair.node.threads)))
+        ∙ (ap (λ (o : Option ℕ). first_by (core_event pair core) (filter (is_above_last o) (keys pair.node.threads))) (sym e) ∙ none_above))
 
-    pub core-up-to : (end : ℕ) → last ≡ Some end → core_offer pair core ≡ first_by (sought pair (ToRun core)) (filter (is_up_to (Some end)) (keys pair.node.threads))
+    pub core-up-to : (end : ℕ) → last ≡ Some end → core_offer pair core ≡ first_by (core_event pair core) (filter (is_up_to (Some end)) (keys pair.node.threads))
     core-up-to end e =
-        let none = ap (λ (o : Option ℕ). first_by (sought pair (ToRun core)) (filter (is_above_last o) (keys pair.node.threads))) (sym e) ∙ none_above in
-        of-all ∙ none-above-first (sought pair (ToRun core)) end (keys pair.node.threads) none
+        let none = ap (λ (o : Option ℕ). first_by (core_event pair core) (filter (is_above_last o) (keys pair.node.threads))) (sym e) ∙ none_above in
+        of-all ∙ none-above-first (core_event pair core) end (keys pair.node.threads) none
 
 -- ---- events with numbers, where the count is the state's
 pub counted : (pair : Pair) (what : Numbered) (n m : ℕ) (r : Option Event) → n ≡ m → r ≡ find (may pair) (map (event_of what) (count_from 0 n)) → find (may pair) (map (event_of what) (count_from 0 m)) ≡ r
 counted pair what n m r e h = ap (λ (k : ℕ). find (may pair) (map (event_of what) (count_from 0 k))) (sym e) ∙ sym h
 
-kernel-grouped : (a b c d e f : List Event) → ((((a ++ b) ++ c) ++ d) ++ e) ++ f ≡ a ++ (b ++ (c ++ (d ++ (e ++ f))))
+kernel-grouped : (a b c d e f : List Event) → ((((a ++ b) ++ c) ++ d) ++ e) ++ f ≡ a ++ (b ++ ((c ++ (d ++ e)) ++ f))
 kernel-grouped a b c d e f = simp append_assoc
 
 linux-grouped : (a b c d : List Event) → (a ++ (b ++ c)) ++ d ≡ a ++ (b ++ (c ++ d))
@@ -60,57 +59,28 @@ module _ (pair : Pair) (p : Pid) where
   abbrev pub answers : List Event
   answers = map (λ w. Answer p w) (count_from 0 pair.workers)
 
-  abbrev pub begins : List Event
-  begins = map (λ t. BeginVm (tid t)) (thread_numbers pair p.0)
-
-  abbrev pub interrupts : List Event
-  interrupts = map (λ t. Interrupt (tid t)) (thread_numbers pair p.0)
-
-  abbrev pub waits : List Event
-  waits = map (λ t. Wait (tid t)) (thread_numbers pair p.0)
-
-  abbrev pub from_waits : List Event
-  from_waits = waits ++ (Reap p ∷ [])
-
-  abbrev pub from_interrupts : List Event
-  from_interrupts = interrupts ++ from_waits
-
-  abbrev pub from_begins : List Event
-  from_begins = begins ++ from_interrupts
+  abbrev pub from_threads : List Event
+  from_threads = events_of_threads pair p ++ (Reap p ∷ [])
 
   abbrev pub from_answers : List Event
-  from_answers = answers ++ from_begins
-
-  pub begins-by : (r : Option Event) → r ≡ first_by (sought pair (ToBegin p)) (filter (is_above_last None) (keys pair.node.threads)) → find (may pair) begins ≡ r
-  begins-by r e = find-kept (may pair) (λ t. BeginVm (tid t)) (is_thread_of pair p.0) (keys pair.node.threads) ∙ (ap (λ (ks : List ℕ). first_by (sought pair (ToBegin p)) ks) (sym (all-above (keys pair.node.threads))) ∙ sym e)
-
-  pub interrupts-by : (r : Option Event) → r ≡ first_by (sought pair (ToInterrupt p)) (filter (is_above_last None) (keys pair.node.threads)) → find (may pair) interrupts ≡ r
-  interrupts-by r e = find-kept (may pair) (λ t. Interrupt (tid t)) (is_thread_of pair p.0) (keys pair.node.threads) ∙ (ap (λ (ks : List ℕ). first_by (sought pair (ToInterrupt p)) ks) (sym (all-above (keys pair.node.threads))) ∙ sym e)
-
-  pub waits-by : (r : Option Event) → r ≡ first_by (sought pair (ToWait p)) (filter (is_above_last None) (keys pair.node.threads)) → find (may pair) waits ≡ r
-  waits-by r e = find-kept (may pair) (λ t. Wait (tid t)) (is_thread_of pair p.0) (keys pair.node.threads) ∙ (ap (λ (ks : List ℕ). first_by (sought pair (ToWait p)) ks) (sym (all-above (keys pair.node.threads))) ∙ sym e)
+  from_answers = answers ++ from_threads
 
   kernel-in-order : kernel_offer pair p.0 ≡ find (may pair) ((Intake p ∷ []) ++ from_answers)
-  kernel-in-order = ap (λ (es : List Event). find (may pair) es) (kernel-grouped (Intake p ∷ []) answers begins interrupts waits (Reap p ∷ []))
+  kernel-in-order = ap (λ (es : List Event). find (may pair) es) (kernel-grouped (Intake p ∷ []) answers (begins pair p) (interrupts pair p) (waits pair p) (Reap p ∷ []))
+
+  pub taken-in : (e : Event) → find (may pair) (Intake p ∷ []) ≡ Some e → kernel_offer pair p.0 ≡ Some e
+  taken-in e h = kernel-in-order ∙ found-first (may pair) (Intake p ∷ []) from_answers e h
 
   module _ (no_intake : find (may pair) (Intake p ∷ []) ≡ None) where
     pub past-intake : kernel_offer pair p.0 ≡ find (may pair) from_answers
     past-intake = kernel-in-order ∙ found-behind (may pair) (Intake p ∷ []) from_answers no_intake
 
     module _ (no_answer : find (may pair) answers ≡ None) where
-      pub past-answers : kernel_offer pair p.0 ≡ find (may pair) from_begins
-      past-answers = past-intake ∙ found-behind (may pair) answers from_begins no_answer
+      pub past-answers : kernel_offer pair p.0 ≡ find (may pair) from_threads
+      past-answers = past-intake ∙ found-behind (may pair) answers from_threads no_answer
 
-      module _ (no_begin : find (may pair) begins ≡ None) where
-        pub past-begins : kernel_offer pair p.0 ≡ find (may pair) from_interrupts
-        past-begins = past-answers ∙ found-behind (may pair) begins from_interrupts no_begin
-
-        module _ (no_interrupt : find (may pair) interrupts ≡ None) where
-          pub past-interrupts : kernel_offer pair p.0 ≡ find (may pair) from_waits
-          past-interrupts = past-begins ∙ found-behind (may pair) interrupts from_waits no_interrupt
-
-          pub past-waits : find (may pair) waits ≡ None → kernel_offer pair p.0 ≡ find (may pair) (Reap p ∷ [])
-          past-waits no_wait = past-interrupts ∙ found-behind (may pair) waits (Reap p ∷ []) no_wait
+      pub past-threads : find (may pair) (events_of_threads pair p) ≡ None → kernel_offer pair p.0 ≡ find (may pair) (Reap p ∷ [])
+      past-threads none = past-answers ∙ found-behind (may pair) (events_of_threads pair p) (Reap p ∷ []) none
 
   -- ---- the Linux side
   abbrev pub fetches : List Event

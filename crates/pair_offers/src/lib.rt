@@ -1,18 +1,14 @@
-//! What each actor of a walk offers, and how a run stands, over any state of the two kernels that answers a few questions.
+//! What is left to be asked of each actor of a walk, and how a run stands by what they offer.
 //!
-//! Promises: `offer` is the definition's offer of the actor (run_model, Walks), and `ending` the definition's ending
-//! (hybrid_model, Journals): a run is over exactly where no actor has an offer. Each takes no memory. The questions are those of
-//! `Inspect`; a core asks its own threads alone, a process its own, and a worker only the events that are left by how it stands
-//! (specs/Stances). What is sought of each thread and of each number stands in specs/Seeking.
+//! Promises: `ending` is the definition's ending (hybrid_model, Journals) of any two kernels whose actors are asked (node_machine, Offers): a
+//! run is over exactly where no actor has an offer. It takes no memory. How the offers of run_model (Walks) are sought stands in specs/: of each
+//! thread and of each number (Seeking), and by how a worker stands (Stances), with the laws of such searches in proofs/.
 #![tactic(auto)]
 
-mod inspect;
-mod offering;
 mod seeking;
 mod stance;
 mod standing;
 
-pub use inspect::Inspect;
-pub use offering::offer;
+pub use seeking::Numbered;
 pub use stance::Stance;
 pub use standing::ending;

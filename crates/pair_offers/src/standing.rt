@@ -7,19 +7,18 @@ ghost use Rattle.run_model.specs.Walks.{actors, actors_of_process, all_workers, 
 ghost use Rattle.run_model.specs.declared.actors.Actor.TheVariants.{Core, Worker};
 ghost use Rattle.std.specs.Prelude.{◌≡◌, ◌≢◌, None, map};
 
-use crate::inspect::Inspect;
-use crate::offering::offer;
 use hybrid_model::Ending;
 use mck_word::Pid;
+use node_machine::{Offers, offer};
 use run_model::Actor;
 
-fn offers<A: Inspect>(state: &A, actor: Actor) -> bool
+fn offers<A: Offers>(state: &A, actor: Actor) -> bool
     ensures { result ≡ offers (A.pair state.now) actor }
 {
     offer(state, actor).is_some()
 }
 
-fn some_core_offers<A: Inspect>(state: &A) -> bool
+fn some_core_offers<A: Offers>(state: &A) -> bool
     ensures { result ≡ some_offers (A.pair state.now) (map (λ c. Core c) (count_from 0 (A.pair state.now).cores)) }
 {
     let cores = state.cores();
@@ -33,7 +32,7 @@ fn some_core_offers<A: Inspect>(state: &A) -> bool
     false
 }
 
-fn some_worker_offers<A: Inspect>(state: &A, p: Pid) -> bool
+fn some_worker_offers<A: Offers>(state: &A, p: Pid) -> bool
     ensures { result ≡ some_offers (A.pair state.now) (map (λ w. Worker p w) (all_workers (A.pair state.now))) }
 {
     let workers = state.workers();
@@ -47,7 +46,7 @@ fn some_worker_offers<A: Inspect>(state: &A, p: Pid) -> bool
     false
 }
 
-fn process_offers<A: Inspect>(state: &A, p: Pid) -> bool
+fn process_offers<A: Offers>(state: &A, p: Pid) -> bool
     ensures { result ≡ some_offers (A.pair state.now) (actors_of_process (A.pair state.now) p.0) }
 {
     offers(state, Actor::Kernel(p))
@@ -55,7 +54,7 @@ fn process_offers<A: Inspect>(state: &A, p: Pid) -> bool
         || some_worker_offers(state, p)
 }
 
-fn some_process_offers<A: Inspect>(state: &A, pids: &[Pid]) -> bool
+fn some_process_offers<A: Offers>(state: &A, pids: &[Pid]) -> bool
     ensures { result ≡ some_offers (A.pair state.now) (actors_of (A.pair state.now) pids.now) }
 {
     let mut rest = pids;
@@ -68,7 +67,7 @@ fn some_process_offers<A: Inspect>(state: &A, pids: &[Pid]) -> bool
     false
 }
 
-fn some_actor_offers<A: Inspect>(state: &A) -> bool
+fn some_actor_offers<A: Offers>(state: &A) -> bool
     ensures { result ≡ some_offers (A.pair state.now) (actors (A.pair state.now)) }
 {
     some_core_offers(state)
@@ -76,20 +75,10 @@ fn some_actor_offers<A: Inspect>(state: &A) -> bool
         || offers(state, Actor::Script)
 }
 
-fn ending_of_run<A: Inspect>(state: &A) -> Ending
-    ensures { result ≡ ending_of_run (A.pair state.now) }
-{
-    if state.all_have_ended() {
-        Ending::Done
-    } else if state.some_runs_on() {
-        Ending::Limit
-    } else {
-        Ending::Stalled
-    }
-}
-
-/// How the run stands: over in one of three ways exactly where no actor has an offer, else unfinished.
-pub fn ending<A: Inspect>(state: &A) -> Ending
+/// How the run stands: over in one of three ways exactly where no actor has an offer, else unfinished. `over` is how it stands where it
+/// is over.
+pub fn ending<A: Offers>(state: &A, over: Ending) -> Ending
+    requires { over ≡ ending_of_run (A.pair state.now) }
     ensures value { result ≡ ending (A.pair state.now) }
     ensures over { first_chosen (A.pair state.now) (actors (A.pair state.now)) ≡ None → ending (A.pair state.now) ≢ Unfinished }
 {
@@ -98,6 +87,6 @@ pub fn ending<A: Inspect>(state: &A) -> Ending
     if some_actor_offers(state) {
         Ending::Unfinished
     } else {
-        ending_of_run(state)
+        over
     }
 }

@@ -4,7 +4,7 @@ use crate::runs::{host_of, sink_of};
 use linux_files::LinuxFiles;
 use mcexec_run::mcexec;
 use mck_report::status_number;
-use one_node::SingleNode;
+use one_kernel::One;
 use outside::{MemHost, MemSink};
 use pair_node::Pair;
 use std::alloc::Global;
@@ -23,7 +23,7 @@ fn written(alloc: Global, image: &[u8], words: &[&str]) -> Result<(u8, Vec<u8>),
     for word in words {
         all.push(String::from_str(alloc, word)?)?;
     }
-    let ended = mcexec::<Node, SingleNode, MemHost, MemSink>(alloc, &all, &mut host, &mut sink);
+    let ended = mcexec::<Node, One, MemHost, MemSink>(alloc, &all, &mut host, &mut sink);
     let text = Vec::from_slice(alloc, sink.taken())?;
     Ok((status_number(&ended.status), text))
 }

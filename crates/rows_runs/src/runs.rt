@@ -3,7 +3,7 @@ ghost use Rattle.std.specs.Prelude.{◌<◌};
 
 use mcexec_run::{Ended, mcexec};
 use one_files::RowFiles;
-use one_node::SingleNode;
+use one_kernel::One;
 use outside::{MemHost, MemSink, Named};
 use page_map::PageMap;
 use pair_node::Pair;
@@ -44,7 +44,7 @@ pub fn call(
     for word in words {
         owned.push(String::from_str(alloc, word)?)?;
     }
-    let audited = mcexec::<Node, SingleNode, MemHost, MemSink>(alloc, &owned, host, sink);
+    let audited = mcexec::<Node, One, MemHost, MemSink>(alloc, &owned, host, sink);
     Ok(Ended {
         status: audited.status,
         journal: audited.journal,

@@ -6,7 +6,7 @@ use Rattle.run_model.specs.declared.actors.Actor.TheVariants.{Core}
 use Rattle.std.specs.Prelude.{map, ◌-◌, ◌≡◌}
 
 abbrev pub invariant-loop-core : goal.invariant-loop-core
-invariant-loop-core g l = let pair = g.A.Inspect.pair l.state in some_offers pair (map (λ c. Core c) (count_from 0 pair.cores)) ≡ some_offers pair (map (λ c. Core c) (below l.core pair.cores))
+invariant-loop-core g l = let pair = g.A.Offers.pair l.state in some_offers pair (map (λ c. Core c) (count_from 0 pair.cores)) ≡ some_offers pair (map (λ c. Core c) (below l.core pair.cores))
 
 abbrev pub decreases-loop-core : goal.decreases-loop-core
 decreases-loop-core g l = l.cores - l.core

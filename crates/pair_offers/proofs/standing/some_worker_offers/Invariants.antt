@@ -6,7 +6,7 @@ use Rattle.run_model.specs.declared.actors.Actor.TheVariants.{Worker}
 use Rattle.std.specs.Prelude.{map, ◌-◌, ◌≡◌}
 
 abbrev pub invariant-loop-worker : goal.invariant-loop-worker
-invariant-loop-worker g l = let pair = g.A.Inspect.pair l.state in some_offers pair (map (λ w. Worker l.p w) (count_from 0 pair.workers)) ≡ some_offers pair (map (λ w. Worker l.p w) (below l.worker pair.workers))
+invariant-loop-worker g l = let pair = g.A.Offers.pair l.state in some_offers pair (map (λ w. Worker l.p w) (count_from 0 pair.workers)) ≡ some_offers pair (map (λ w. Worker l.p w) (below l.worker pair.workers))
 
 abbrev pub decreases-loop-worker : goal.decreases-loop-worker
 decreases-loop-worker g l = l.workers - l.worker

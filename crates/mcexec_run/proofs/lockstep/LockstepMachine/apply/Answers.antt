@@ -15,7 +15,7 @@ follow-requires-clause-may g c =
     let e = c.args.event.now in
     let steps : image pair e ≡ steps_by c.run_thread.result c.step_of-step.result c.apply-executed.result =
     steps_are e pair c.run_thread.result c.step_of-step.result c.apply-executed.result c.step_of-step.ensures c.run_thread.ensures c.apply-executed.ensures.executed in
-    let coherent : Coherent pair = c.every_told_state.ensures.coherent pair (∥∥₁_map c.reached.ensures (λ s. s.0)) in
+    let coherent : Coherent pair = c.every_told_state.ensures.coherent pair (∥∥₁_map c.reached.ensures (λ s. s.coherent)) in
     may_steps (g.O.SingleKernel.one c.args.self.now.single) e pair c.run_thread.result c.step_of-step.result c.apply-executed.result c.args.self.now.same steps ((c.every_event.ensures pair e coherent c.requires.may).1)
 
 pub follow-requires-clause-room : goal.follow-requires-clause-room
@@ -24,7 +24,7 @@ follow-requires-clause-room g c =
     let e = c.args.event.now in
     let steps : image pair e ≡ steps_by c.run_thread.result c.step_of-step.result c.apply-executed.result =
     steps_are e pair c.run_thread.result c.step_of-step.result c.apply-executed.result c.step_of-step.ensures c.run_thread.ensures c.apply-executed.ensures.executed in
-    let coherent : Coherent pair = c.every_told_state.ensures.coherent pair (∥∥₁_map c.reached.ensures (λ s. s.0)) in
+    let coherent : Coherent pair = c.every_told_state.ensures.coherent pair (∥∥₁_map c.reached.ensures (λ s. s.coherent)) in
     room_steps (g.O.SingleKernel.one c.args.self.now.single) e pair c.run_thread.result c.step_of-step.result c.apply-executed.result c.args.self.now.same steps ((c.every_event.ensures pair e coherent c.requires.may).1)
     (g.O.SingleKernel.has_room c.args.self.now.single) c.run_thread.ensures c.requires.room.1
 
@@ -34,7 +34,7 @@ invariant_of-self g c =
     let e = c.args.event.now in
     let steps : image pair e ≡ steps_by c.run_thread.result c.step_of-step.result c.apply-executed.result =
     steps_are e pair c.run_thread.result c.step_of-step.result c.apply-executed.result c.step_of-step.ensures c.run_thread.ensures c.apply-executed.ensures.executed in
-    let coherent : Coherent pair = c.every_told_state.ensures.coherent pair (∥∥₁_map c.reached.ensures (λ s. s.0)) in
+    let coherent : Coherent pair = c.every_told_state.ensures.coherent pair (∥∥₁_map c.reached.ensures (λ s. s.coherent)) in
     record {
       same = still_same (g.O.SingleKernel.one c.args.self.now.single) e pair c.run_thread.result c.step_of-step.result c.apply-executed.result c.args.self.now.same steps ((c.every_event.ensures pair e coherent c.requires.may).1)
           (g.O.SingleKernel.one c.follow.new.single) (g.M.Offers.pair c.apply-executed.new.self) c.follow.ensures c.apply-executed.ensures.after;

@@ -3,7 +3,7 @@ use Rattle.one_kernel.proofs.ChangeRooms.{on-ok}
 use Rattle.one_kernel.proofs.MadeTraps.{keeps, made, made-call, made-change, made-fork, made-local, node-state, told-after}
 use Rattle.one_kernel.proofs.parts.One.make_trap_room.Goals as goal
 use Rattle.one_kernel.specs.Parts.{one_of}
-use Rattle.one_kernel.specs.Shown.{IsShown}
+use Rattle.node_machine.specs.Reached.{IsShown}
 use Rattle.one_kernel.specs.Trapping.{begins_call, calls_memory}
 use Rattle.one_kernel.specs.declared.parts.One.{One}
 use Rattle.std.proofs.Common.{arith, refl, subst, sym, ◌∙◌, ◌≡◌, ◌≤◌}

@@ -4,7 +4,8 @@ use Rattle.kernel_model.specs.OneKernel.{guests_from}
 use Rattle.pair_core.proofs.BootFolds.{boots, whole-shortage}
 use Rattle.pair_core.proofs.BootNode.{begins-before}
 use Rattle.pair_core.proofs.parts.Parts.boot.Goals as goal
-use Rattle.pair_core.specs.Booting.{BootLacks, IsBefore, pair_with}
+use Rattle.node_machine.specs.Booting.{BootFails}
+use Rattle.pair_core.specs.Booting.{IsBefore, pair_with}
 use Rattle.pair_core.specs.Shown.{pair_of}
 use Rattle.std.proofs.Common.{All, ap, arith, fold, subst, sym, ◌∙◌, ◌≡◌}
 
@@ -23,7 +24,7 @@ add_guests-requires-clause-arguments g c = subst (All HasArguments) (sym c.as_sl
 pub returns-in-Err-clause-frames : goal.returns-in-Err-clause-frames
 unfolding pair_of
 returns-in-Err-clause-frames g c =
-    subst (BootLacks c.in-Err.e)
+    subst (BootFails c.in-Err.e)
     (whole-shortage c.args.job.now c.args.images.now (pair_of g.T.PageTable.rows g.F.FileStore.files c.in_ok-parts.parts) c.as_slice.result.now c.in_ok-parts.ensures.state c.as_slice.ensures) c.in-Err.ensures.frames
 
 pub returns-in-Ok-clause-state : goal.returns-in-Ok-clause-state
