@@ -13,3 +13,4 @@ pub mod FromLists
 pub mod Relisted
 pub mod Standing
 pub mod Offering
+pub mod Quiet

@@ -1,9 +1,11 @@
 // The lists of live threads, by core and by process.
 ghost use Rattle.file_model.specs.Files.{Files};
+ghost use Rattle.kernel_model.specs.Nodes.{Node as KernelNode};
 ghost use Rattle.kernel_tables.specs.Shown.{node_of};
 ghost use Rattle.number_groups.specs.Groups.{IsNext, NoneFrom};
 ghost use Rattle.pair_node.specs.Listed.{HasListRoom, HasRoomToList, if_left, IsListed, Moves, Owners, nobody, owners, touched_by, with_owner, without_gone};
-ghost use Rattle.std.specs.Prelude.{◌≡◌, ◌≤◌, ℕ, IfOk, MatchOption, None, OnOk, Option, Some};
+ghost use Rattle.pair_node.specs.declared.members.Touched.TheVariants.{Nothing};
+ghost use Rattle.std.specs.Prelude.{◌≡◌, ◌≤◌, ℕ, IfOk, MatchOption, None, OnOk, Option, Some, true};
 
 use hybrid_model::Event;
 use kernel_model::Does;
@@ -44,6 +46,13 @@ pub fn touched_by(node: &KernelTables, event: Event) -> Touched
         Event::Reap(p) => Touched::Group(p),
         _ => Touched::Nothing,
     }
+}
+
+/// Whether the event neither makes nor ends a thread, whatever the tables are.
+pub fn is_quiet(event: &Event) -> bool
+    ensures { (node : KernelNode) → result ≡ true → touched_by node event.now ≡ Nothing }
+{
+    !matches!(event, Event::Trap(_) | Event::Intake(_) | Event::Reap(_))
 }
 
 impl Members {

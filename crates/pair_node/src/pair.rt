@@ -5,15 +5,16 @@ ghost use Rattle.pair_core.specs.Kept.{Kept};
 ghost use Rattle.node_machine.specs.Reached.{IsReached, IsSound};
 ghost use Rattle.node_machine.specs.Stepping.{executed};
 ghost use Rattle.pair_core.specs.Shown.{pair_of};
-ghost use Rattle.pair_node.specs.Listed.{IsListed};
+ghost use Rattle.pair_node.specs.Listed.{IsListed, touched_by};
 ghost use Rattle.pair_node.specs.Room.{HasListPlace, HasPlace, HasRoom};
+ghost use Rattle.pair_node.specs.declared.members.Touched.TheVariants.{Nothing};
 ghost use Rattle.thread_laws.specs.Members.{process_at};
 ghost use Rattle.kernel_model.specs.Nodes.{has_process};
 ghost use Rattle.std.specs.Prelude.{◌≡◌, ◌-◌, ◌<◌, ◌++◌, ◌∷◌, [], OnOk, cond, map, true, vec_len};
 ghost use Rattle.std.specs.Vec.{vec_capacity};
 
 use crate::events::happen;
-use crate::members::{Members, touched_by};
+use crate::members::{Members, is_quiet, touched_by};
 use crate::room::{make_list_room, make_place, make_room};
 use file_calls::store::FileStore;
 use hybrid_model::Event;
@@ -72,8 +73,19 @@ impl<T: PageTable + Drop, F: FileStore> Pair<T, F> {
         make_room(&mut self.parts, self.alloc, *event)
     }
 
-    /// The event happens, for which room was made. The answer is how many instructions it executed.
-    pub fn apply(&mut self, event: &Event) -> u64
+    /// An event happens that neither makes nor ends a thread.
+    fn apply_quietly(&mut self, event: &Event) -> u64
+        requires may { may (pair_of T.rows F.files self.old.parts) event.now ≡ true }
+        requires quiet { touched_by (pair_of T.rows F.files self.old.parts).node event.now ≡ Nothing }
+        requires room { HasRoom T.rows T.has_room F.room F.can_write F.files event.now self.old.parts }
+        ensures after { pair_of T.rows F.files self.new.parts ≡ after (pair_of T.rows F.files self.old.parts) event.now }
+        ensures executed { result ≡ executed (pair_of T.rows F.files self.old.parts) event.now }
+    {
+        happen(&mut self.parts, self.alloc, *event)
+    }
+
+    /// An event happens that may make a process, and make or end threads: they are listed.
+    fn apply_listed(&mut self, event: &Event) -> u64
         requires may { may (pair_of T.rows F.files self.old.parts) event.now ≡ true }
         requires room { HasRoom T.rows T.has_room F.room F.can_write F.files event.now self.old.parts }
         requires place { HasPlace event.now (vec_capacity self.old.pids - vec_len self.old.pids) }
@@ -89,6 +101,22 @@ impl<T: PageTable + Drop, F: FileStore> Pair<T, F> {
         self.members
             .note(cores, touched, Tid(next), &self.parts.lwk.node.threads);
         executed
+    }
+
+    /// The event happens, for which room was made. The answer is how many instructions it executed.
+    pub fn apply(&mut self, event: &Event) -> u64
+        requires may { may (pair_of T.rows F.files self.old.parts) event.now ≡ true }
+        requires room { HasRoom T.rows T.has_room F.room F.can_write F.files event.now self.old.parts }
+        requires place { HasPlace event.now (vec_capacity self.old.pids - vec_len self.old.pids) }
+        requires lists { HasListPlace event.now self.old.members }
+        ensures after { pair_of T.rows F.files self.new.parts ≡ after (pair_of T.rows F.files self.old.parts) event.now }
+        ensures executed { result ≡ executed (pair_of T.rows F.files self.old.parts) event.now }
+    {
+        if is_quiet(event) {
+            self.apply_quietly(event)
+        } else {
+            self.apply_listed(event)
+        }
     }
 
     /// The state is one that the two kernels reach.

@@ -8,7 +8,7 @@ use Rattle.pair_core.specs.Shown.{pair_of}
 use Rattle.pair_node.proofs.Numbered.{begins-by-trap, keys-after, numbers-added}
 use Rattle.pair_node.proofs.Shows.{cores-are, next-is, touched-is}
 use Rattle.pair_node.proofs.Sound.{sound-after, sound-told, told-along}
-use Rattle.pair_node.proofs.pair.Pair.apply.Goals as goal
+use Rattle.pair_node.proofs.pair.Pair.apply_listed.Goals as goal
 use Rattle.pair_node.specs.Listed.{HasRoomToList}
 use Rattle.pair_node.specs.Room.{HasPlace}
 use Rattle.pair_node.specs.declared.members.Touched.{Touched}
