@@ -24,7 +24,7 @@ CRATES = ["mck_word", "mck_flags", "job_model", "isa_model", "file_model", "kern
 HEAD = """use Rattle.hybrid_model.specs.Boot.{boot, shortage}
 use Rattle.hybrid_model.specs.Events.{may, after}
 use Rattle.hybrid_model.specs.Journals.{may_all, state, ending}
-use Rattle.hybrid_model.specs.Lwk.{memory_here}
+use Rattle.hybrid_model.specs.OneProcess.{memory_here}
 use Rattle.hybrid_model.specs.Pairs.{Pair, here, side_of}
 use Rattle.hybrid_model.specs.Rings.{ring}
 use Rattle.hybrid_model.specs.declared.events.Ending.TheVariants.{Done, Limit, Stalled}
@@ -159,17 +159,19 @@ def run_rows(names):
 
 def run_wrong():
     failed = 0
-    for title, (crate_name, file_name, right, wrong, row) in WRONG.items():
+    for title, (crate_name, file_name, changes, row) in WRONG.items():
         with tempfile.TemporaryDirectory() as folder:
             crate = make_workspace(Path(folder))
             write_rows(crate, [row])
             file = Path(folder) / "crates" / crate_name / "specs" / f"{file_name}.antt"
             content = file.read_text()
-            if content.count(right) != 1:
+            if any(content.count(right) != 1 for right, _ in changes):
                 print(f"NOT THERE {title}")
                 failed = 1
                 continue
-            file.write_text(content.replace(right, wrong))
+            for right, wrong in changes:
+                content = content.replace(right, wrong)
+            file.write_text(content)
             output = check(crate)
         found = row in refused(output)
         failed |= not found

@@ -368,14 +368,14 @@ row.fact("moved", "interrupted_answer (record no_progress { moved = 3 })", "pos 
 row.fact("none_moved", "interrupted_answer no_progress", "negsuc 3")
 ROWS["InterruptedAnswer"] = row
 
-# ---- wrong variants of the definitions, and the row that refuses each: the crate's file, the text that stands, the text in its place
+# ---- wrong variants of the definitions, and the row that refuses each: the crate's file, each text that stands with the one in its place
 
 WRONG = {
-    "stale mirror row": ("hybrid_model", "Linux", "mirror = keep l.mirror (λ page. not (in_range r page))", "mirror = l.mirror", "RightTaken"),
-    "early acknowledgement": ("hybrid_model", "Linux", "clear_in (Some (Taken, r)) l = no_pin_in r l.pins", "clear_in (Some (Taken, r)) l = true", "PinHolds"),
-    "early free": ("hybrid_model", "Lwk", "changing = Some t }", "changing = Some t; table = no_rows }", "ThreeRounds"),
-    "answer in a closing range": ("hybrid_model", "Lwk", "noted_may_be_answered o (Some n) = not (closes o n.0)", "noted_may_be_answered o (Some n) = true", "AnswerInClosingRange"),
-    "interrupt after bytes moved": ("kernel_model", "Progress", "interrupted_answer p = cond (p.moved == 0) (refused EINTR) (pos p.moved)", "interrupted_answer p = refused EINTR", "InterruptedAnswer"),
+    "stale mirror row": ("hybrid_model", "Fetch", [("mirror = keep l.mirror (λ page. not (in_range r page))", "mirror = l.mirror")], "RightTaken"),
+    "early acknowledgement": ("hybrid_model", "AckClear", [("clear_in (Some (Taken, r)) l = no_pin_in r l.pins", "clear_in (Some (Taken, r)) l = not false")], "PinHolds"),
+    "early free": ("hybrid_model", "BeginVm", [("changing = Some t }", "changing = Some t; table = no_lwk.table }"), ("Sides.{Side}", "Sides.{Side, no_lwk}")], "ThreeRounds"),
+    "answer in a closing range": ("hybrid_model", "Answer", [("noted_may_be_answered o (Some n) = not (closes o n.0)", "noted_may_be_answered o (Some n) = not false")], "AnswerInClosingRange"),
+    "interrupt after bytes moved": ("kernel_model", "Progress", [("interrupted_answer p = cond (p.moved == 0) (refused EINTR) (pos p.moved)", "interrupted_answer p = refused EINTR")], "InterruptedAnswer"),
 }
 
 if __name__ == "__main__":
