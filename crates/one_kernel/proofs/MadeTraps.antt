@@ -3,7 +3,7 @@ use Rattle.file_model.specs.Files.{Files}
 use Rattle.kernel_model.specs.Nodes.{Node as KernelNode}
 use Rattle.kernel_tables.specs.Room.{KeepsRoom}
 use Rattle.kernel_tables.specs.Shown.{node_of}
-use Rattle.kernel_tables.specs.declared.Node.{Node}
+use Rattle.kernel_tables.specs.declared.KernelTables.{KernelTables}
 use Rattle.one_calls.specs.LocalTraps.{calls_fork}
 use Rattle.one_files.specs.Seen.{seen}
 use Rattle.one_kernel.proofs.TrapKinds.{told-of}
@@ -18,14 +18,14 @@ use Rattle.std.proofs.Common.{ap, arith, subst, sym, ◌∙◌}
 use Rattle.std.specs.Prelude.{Bool, false, true, ℕ, ◌≡◌, ◌≤◌}
 
 -- tables that show the same, with more room, leave the state
-pub node-state : (x : One) (n : Node) → ((files : Files) → node_of n files ≡ node_of x.node files) → one_of (record x { node = n }) ≡ one_of x
+pub node-state : (x : One) (n : KernelTables) → ((files : Files) → node_of n files ≡ node_of x.node files) → one_of (record x { node = n }) ≡ one_of x
 unfolding one_of
 node-state x n e = λ i. record { node = e (seen x.files) i; own = each shown_own x.own.map; free = x.free }
 
-pub keeps : (a b : Node) → b ≡ a → KeepsRoom a b
+pub keeps : (a b : KernelTables) → b ≡ a → KeepsRoom a b
 keeps a b e = subst (KeepsRoom a) (sym e) (record { processes = omega arith; threads = omega arith; sleepers = omega arith })
 
-pub made : (z : One) (t : ℕ) (a : Node) → 1 ≤ a.sleepers.spare → 1 ≤ a.threads.spare → KeepsRoom a z.node
+pub made : (z : One) (t : ℕ) (a : KernelTables) → 1 ≤ a.sleepers.spare → 1 ≤ a.threads.spare → KeepsRoom a z.node
     → HasKindRoom (calls_fork (one_of z).node t) (begins_call (one_of z).node t) (calls_memory (one_of z).node t) z t → HasTrapRoom z t
 made z t a s h k kind = record {
   sleeper = let more = k.sleepers in omega (arith, s, more);
