@@ -4,6 +4,7 @@ use kernel_model::{Does, Life};
 use kernel_tables::KernelTables;
 use mck_flags::SigSet;
 use mck_word::{End, NoMemory, Pid, Regs, Tid};
+use std::process::Abort;
 use std::test::Fail;
 
 fn registers(pc: u64) -> Regs {
@@ -46,19 +47,17 @@ fn cloned(node: &mut KernelTables, t: Tid, args: &[u64; 6]) -> Result<Option<Tid
     }
 }
 
-#[test]
-fn forks_ends_and_waits(rt: HostRuntime) -> Result<(), Fail> {
-    let mut node = KernelTables::new(rt.alloc(), 64, 1000);
-    begin(&mut node, Pid(1))?;
+fn forks_ends_and_waits_in(rt: &impl Abort, node: &mut KernelTables) -> Result<(), Fail> {
+    begin(node, Pid(1))?;
     assert!(rt; node.may_run(Tid(1)));
     if node.left_of_limit() >= 5 {
         node.run_over(Tid(1), registers(65556), Does::Ready, 5);
     }
     assert_eq!(rt; (node.instructions(Pid(1)), node.left_of_limit()), (5, 995));
-    let child = forked(&mut node, Tid(1), &[17, 0, 0, 0, 0, 0])?.ok_or("child")?;
+    let child = forked(node, Tid(1), &[17, 0, 0, 0, 0, 0])?.ok_or("child")?;
     assert_eq!(rt; (child, node.parent_number(child)), (Pid(17), 1));
     assert_eq!(rt;
-        cloned(&mut node, Tid(1), &[0xf00, 8192, 0, 0, 0, 0])?,
+        cloned(node, Tid(1), &[0xf00, 8192, 0, 0, 0, 0])?,
         Some(Tid(18))
     );
     assert_eq!(rt; (node.place(Tid(18)), node.process_count()), (1, 2));
@@ -78,9 +77,13 @@ fn forks_ends_and_waits(rt: HostRuntime) -> Result<(), Fail> {
 }
 
 #[test]
-fn signals_and_answers(rt: HostRuntime) -> Result<(), Fail> {
+fn forks_ends_and_waits(rt: HostRuntime) -> Result<(), Fail> {
     let mut node = KernelTables::new(rt.alloc(), 64, 1000);
-    begin(&mut node, Pid(1))?;
+    forks_ends_and_waits_in(&rt, &mut node)
+}
+
+fn signals_and_answers_in(rt: &impl Abort, node: &mut KernelTables) -> Result<(), Fail> {
+    begin(node, Pid(1))?;
     let t = Tid(1);
     node.generate_for_process(Pid(1), 17);
     assert!(rt; !node.is_deliverable(t));
@@ -109,4 +112,10 @@ fn signals_and_answers(rt: HostRuntime) -> Result<(), Fail> {
     node.raised(t, 10);
     assert_eq!(rt; node.life(Pid(1)), Life::Dying(End::Killed(10)));
     Ok(())
+}
+
+#[test]
+fn signals_and_answers(rt: HostRuntime) -> Result<(), Fail> {
+    let mut node = KernelTables::new(rt.alloc(), 64, 1000);
+    signals_and_answers_in(&rt, &mut node)
 }

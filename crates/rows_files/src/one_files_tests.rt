@@ -4,23 +4,22 @@ use file_calls::store::FileStore;
 use file_model::{FileAns, FileOp};
 use mck_word::{NoMemory, Pid};
 use one_files::RowFiles;
+use std::process::Abort;
 use std::test::Fail;
 
-#[test]
-fn a_file_is_written_and_unlinked(rt: HostRuntime) -> Result<(), Fail> {
-    let mut files = RowFiles::new(rt.alloc())?;
+fn written_and_unlinked_in(rt: &impl Abort, files: &mut RowFiles) -> Result<(), Fail> {
     let open = FileOp::Openat {
         dirfd: -100,
         flags: 0o102,
     };
-    assert_eq!(rt; step(&mut files, &open, &mut [47, 97])?, FileAns::Done(0));
+    assert_eq!(rt; step(files, &open, &mut [47, 97])?, FileAns::Done(0));
     let put = FileOp::Put {
         desc: 0,
         at: None,
         moved: 0,
         len: 2,
     };
-    assert_eq!(rt; step(&mut files, &put, &mut [104, 105])?, FileAns::Done(2));
+    assert_eq!(rt; step(files, &put, &mut [104, 105])?, FileAns::Done(2));
     let get = FileOp::Get {
         desc: 0,
         at: Some(0),
@@ -28,17 +27,17 @@ fn a_file_is_written_and_unlinked(rt: HostRuntime) -> Result<(), Fail> {
         len: 2,
     };
     let mut read = [0, 0];
-    assert_eq!(rt; step(&mut files, &get, &mut read)?, FileAns::Done(2));
+    assert_eq!(rt; step(files, &get, &mut read)?, FileAns::Done(2));
     assert_eq!(rt; read, [104, 105]);
     assert_eq!(rt; files.node_count(), 2);
     let unlink = FileOp::Unlinkat {
         dirfd: -100,
         flags: 0,
     };
-    assert_eq!(rt; step(&mut files, &unlink, &mut [47, 97])?, FileAns::Done(0));
+    assert_eq!(rt; step(files, &unlink, &mut [47, 97])?, FileAns::Done(0));
     assert_eq!(rt; files.node_count(), 2);
     assert_eq!(rt;
-        step(&mut files, &FileOp::Close { fd: 0 }, &mut [])?,
+        step(files, &FileOp::Close { fd: 0 }, &mut [])?,
         FileAns::Done(0)
     );
     assert_eq!(rt; files.node_count(), 1);
@@ -46,13 +45,17 @@ fn a_file_is_written_and_unlinked(rt: HostRuntime) -> Result<(), Fail> {
 }
 
 #[test]
-fn a_file_is_written_up_to_its_limit(rt: HostRuntime) -> Result<(), Fail> {
+fn a_file_is_written_and_unlinked(rt: HostRuntime) -> Result<(), Fail> {
     let mut files = RowFiles::new(rt.alloc())?;
+    written_and_unlinked_in(&rt, &mut files)
+}
+
+fn written_up_to_its_limit_in(rt: &impl Abort, files: &mut RowFiles) -> Result<(), Fail> {
     let open = FileOp::Openat {
         dirfd: -100,
         flags: 0o102,
     };
-    assert_eq!(rt; step(&mut files, &open, &mut [47, 97])?, FileAns::Done(0));
+    assert_eq!(rt; step(files, &open, &mut [47, 97])?, FileAns::Done(0));
     for at in [1_048_576, 1 << 40, u64::MAX] {
         let put = FileOp::Put {
             desc: 0,
@@ -60,10 +63,7 @@ fn a_file_is_written_up_to_its_limit(rt: HostRuntime) -> Result<(), Fail> {
             moved: 0,
             len: 2,
         };
-        assert_eq!(rt;
-            step(&mut files, &put, &mut [104, 105])?,
-            FileAns::Done(-27)
-        );
+        assert_eq!(rt; step(files, &put, &mut [104, 105])?, FileAns::Done(-27));
     }
     assert_eq!(rt; files.file_len(2), 0);
     let last = FileOp::Put {
@@ -72,7 +72,13 @@ fn a_file_is_written_up_to_its_limit(rt: HostRuntime) -> Result<(), Fail> {
         moved: 0,
         len: 2,
     };
-    assert_eq!(rt; step(&mut files, &last, &mut [104, 105])?, FileAns::Done(1));
+    assert_eq!(rt; step(files, &last, &mut [104, 105])?, FileAns::Done(1));
     assert_eq!(rt; files.file_len(2), 1_048_576);
     Ok(())
+}
+
+#[test]
+fn a_file_is_written_up_to_its_limit(rt: HostRuntime) -> Result<(), Fail> {
+    let mut files = RowFiles::new(rt.alloc())?;
+    written_up_to_its_limit_in(&rt, &mut files)
 }

@@ -2,6 +2,7 @@
 use ikc_ring::Call;
 use mck_word::{NoMemory, Req, Tid};
 use request_book::{Book, ReqState};
+use std::process::Abort;
 use std::test::Fail;
 
 // Posts a call of thread 1, where the numbers last.
@@ -73,35 +74,39 @@ fn reply(book: &mut Book, q: Req) {
     }
 }
 
-#[test]
-fn requests_in_order(rt: HostRuntime) -> Result<(), Fail> {
-    let mut book = Book::new(rt.alloc());
+fn requests_in_order_in(rt: &impl Abort, book: &mut Book) -> Result<(), Fail> {
     assert_eq!(rt; book.oldest(), None);
     for n in 1..4 {
-        assert_eq!(rt; post(&mut book)?, Req(n));
+        assert_eq!(rt; post(book)?, Req(n));
     }
     for n in [2, 1, 3] {
-        fetch(&mut book, Req(n));
+        fetch(book, Req(n));
     }
-    assert_eq!(rt; assign(&mut book), Some(Req(2)));
+    assert_eq!(rt; assign(book), Some(Req(2)));
     assert_eq!(rt; book.oldest(), Some(Req(1)));
-    park(&mut book, Req(2));
+    park(book, Req(2));
     assert_eq!(rt; book.parked_from(Req(1)), Some(Req(2)));
     assert_eq!(rt; book.parked_from(Req(3)), None);
-    assert_eq!(rt; assign(&mut book), Some(Req(1)));
-    unpark(&mut book, Req(2));
+    assert_eq!(rt; assign(book), Some(Req(1)));
+    unpark(book, Req(2));
     assert_eq!(rt; book.oldest(), Some(Req(3)));
-    fault(&mut book, Req(1));
+    fault(book, Req(1));
     assert_eq!(rt; book.state(Req(1)), Some(ReqState::Faulted));
-    answer(&mut book, Req(1));
-    end(&mut book, Req(1));
+    answer(book, Req(1));
+    end(book, Req(1));
     assert_eq!(rt; book.state(Req(1)), Some(ReqState::Ended));
     assert!(rt; book.call(Req(1)).is_some());
-    reply(&mut book, Req(1));
+    reply(book, Req(1));
     assert_eq!(rt; book.state(Req(1)), Some(ReqState::Replied));
     assert_eq!(rt; book.call(Req(1)), None);
     assert_eq!(rt; book.state(Req(0)), None);
     assert_eq!(rt; book.state(Req(4)), None);
-    assert_eq!(rt; post(&mut book)?, Req(4));
+    assert_eq!(rt; post(book)?, Req(4));
     Ok(())
+}
+
+#[test]
+fn requests_in_order(rt: HostRuntime) -> Result<(), Fail> {
+    let mut book = Book::new(rt.alloc());
+    requests_in_order_in(&rt, &mut book)
 }

@@ -2,6 +2,7 @@
 use lwk_threads::{ThreadTable, core_of};
 use mck_flags::SigSet;
 use mck_word::{NoMemory, Pid, Regs, Tid};
+use std::process::Abort;
 use std::test::Fail;
 
 fn registers(pc: u64) -> Regs {
@@ -48,14 +49,11 @@ fn end<S: Drop>(table: &mut ThreadTable<S>, tid: Tid) {
 // Stack 8192, tls 99, child tid 12288.
 const ARGS: [u64; 6] = [0x28_0f00, 8192, 0, 99, 12288, 0];
 
-#[test]
-fn clones(rt: HostRuntime) -> Result<(), Fail> {
-    let mut table: ThreadTable<u8> = ThreadTable::new(rt.alloc());
-    begin(&mut table, Pid(1), 1)?;
-    begin(&mut table, Pid(2), 2)?;
+// Three clones of thread 1, beside a process of one thread.
+fn three_clones(rt: &impl Abort, table: &mut ThreadTable<u8>) -> Result<(), Fail> {
     assert_eq!(rt; table.fresh(), Tid(17));
     for n in 17..20 {
-        assert_eq!(rt; spawn(&mut table, Tid(1), &ARGS, 3)?, Some(Tid(n)));
+        assert_eq!(rt; spawn(table, Tid(1), &ARGS, 3)?, Some(Tid(n)));
     }
     assert_eq!(rt; table.live(Pid(1)), 4);
     assert_eq!(rt; table.live(Pid(2)), 1);
@@ -68,9 +66,14 @@ fn clones(rt: HostRuntime) -> Result<(), Fail> {
     );
     assert_eq!(rt; (x.mask, x.pending, x.clear), (SigSet(6), SigSet(0), 12288));
     assert_eq!(rt; (x.back, x.state), (false, 3));
-    end(&mut table, Tid(18));
+    Ok(())
+}
+
+// A clone of a clone takes the lowest free place.
+fn clone_of_a_clone(rt: &impl Abort, table: &mut ThreadTable<u8>) -> Result<(), Fail> {
+    end(table, Tid(18));
     assert_eq!(rt;
-        spawn(&mut table, Tid(17), &[0xf00, 0, 0, 99, 12288, 0], 4)?,
+        spawn(table, Tid(17), &[0xf00, 0, 0, 99, 12288, 0], 4)?,
         Some(Tid(20))
     );
     let x = table.thread(Tid(20)).ok_or("thread 20")?;
@@ -79,18 +82,35 @@ fn clones(rt: HostRuntime) -> Result<(), Fail> {
     assert_eq!(rt; table.next(Tid(3)), Some(Tid(17)));
     assert_eq!(rt; table.next(Tid(18)), Some(Tid(19)));
     assert_eq!(rt; table.next(Tid(21)), None);
-    for _ in 0..12 {
-        assert!(rt; spawn(&mut table, Tid(1), &ARGS, 5)?.is_some());
-    }
-    assert_eq!(rt; spawn(&mut table, Tid(1), &ARGS, 5)?, None);
-    assert_eq!(rt; core_of(Tid(19), 8), 3);
     Ok(())
 }
 
+// Clones up to sixteen threads.
+fn most_clones(rt: &impl Abort, table: &mut ThreadTable<u8>) -> Result<(), Fail> {
+    for _ in 0..12 {
+        assert!(rt; spawn(table, Tid(1), &ARGS, 5)?.is_some());
+    }
+    assert_eq!(rt; spawn(table, Tid(1), &ARGS, 5)?, None);
+    Ok(())
+}
+
+fn clones_in(rt: &impl Abort, table: &mut ThreadTable<u8>) -> Result<(), Fail> {
+    begin(table, Pid(1), 1)?;
+    begin(table, Pid(2), 2)?;
+    three_clones(rt, table)?;
+    clone_of_a_clone(rt, table)?;
+    most_clones(rt, table)
+}
+
 #[test]
-fn sets(rt: HostRuntime) -> Result<(), Fail> {
+fn clones(rt: HostRuntime) -> Result<(), Fail> {
+    assert_eq!(rt; core_of(Tid(19), 8), 3);
     let mut table: ThreadTable<u8> = ThreadTable::new(rt.alloc());
-    begin(&mut table, Pid(1), 1)?;
+    clones_in(&rt, &mut table)
+}
+
+fn sets_in(rt: &impl Abort, table: &mut ThreadTable<u8>) -> Result<(), Fail> {
+    begin(table, Pid(1), 1)?;
     let t = Tid(1);
     if table.thread(t).is_some() {
         table.set_regs(t, registers(8));
@@ -113,8 +133,14 @@ fn sets(rt: HostRuntime) -> Result<(), Fail> {
     let x = table.thread(t).ok_or("thread 1")?;
     assert_eq!(rt; (x.regs.pc, x.mask, x.pending), (8, SigSet(1), SigSet(2)));
     assert_eq!(rt; (x.clear, x.back, x.state), (16, true, 9));
-    end(&mut table, t);
+    end(table, t);
     assert!(rt; table.thread(t).is_none());
     assert_eq!(rt; table.live(Pid(1)), 0);
     Ok(())
+}
+
+#[test]
+fn sets(rt: HostRuntime) -> Result<(), Fail> {
+    let mut table: ThreadTable<u8> = ThreadTable::new(rt.alloc());
+    sets_in(&rt, &mut table)
 }
