@@ -128,3 +128,59 @@ calls_leaf:
  ld ra, 24(sp)
  addi sp, sp, 32
  jalr zero, 0(ra)
+
+products:
+# Products, quotients and remainders of the numbers of 24 pages, each written back; 100 times.
+ lui s0, 2
+ lui s1, 24
+ addi s2, zero, 100
+ lui s3, 361207
+ addi s3, s3, 1069
+ slli s3, s3, 13
+ addi s3, s3, 1021
+ lui s4, 244
+ addi s4, s4, 579
+ addi a0, zero, 7
+products_lap:
+ add t0, s0, zero
+ add t1, s0, s1
+products_word:
+ ld t2, 0(t0)
+ mul t3, a0, s3
+ mulhu t4, t2, s3
+ add t3, t3, t4
+ divu t5, t3, s4
+ remw t6, t2, s4
+ add a0, t3, t5
+ xor a0, a0, t6
+ sd a0, 0(t0)
+ addi t0, t0, 8
+ bltu t0, t1, products_word
+ addi s2, s2, -1
+ bne s2, zero, products_lap
+ ecall
+
+counters:
+# Adds to one of 2,048 counters in turn, and to one that all have; 999,424 times.
+ lui s0, 2
+ lui s1, 244
+ lui s2, 6
+ addi s3, zero, 3
+ addi t0, zero, 0
+ addi a0, zero, 0
+counters_lap:
+ slli t1, t0, 2
+ add t0, t0, t1
+ addi t0, t0, 1
+ andi t0, t0, 2047
+ slli t2, t0, 3
+ add t2, t2, s0
+ amoadd.d t3, s3, (t2)
+ amoadd.w zero, t0, (s2)
+ add a0, a0, t3
+ addi s1, s1, -1
+ bne s1, zero, counters_lap
+ lw t3, 0(s2)
+ slli t3, t3, 32
+ xor a0, a0, t3
+ ecall

@@ -1,4 +1,5 @@
-// A plain interpreter of RV64I to compare with: a table of pages with rights, and a switch on the opcode and funct3.
+// A plain interpreter of RV64I with M and the AMO instructions to compare with: a table of pages with rights, and a switch on the
+// opcode and funct3.
 // It runs the same loops as crates/time_loops and prints the same lines, with the microseconds.
 #include <stdint.h>
 #include <stdio.h>
@@ -30,6 +31,39 @@ static uint64_t imm_b(uint32_t w) {
 
 static uint64_t imm_j(uint32_t w) {
     return sext((w >> 31) << 20 | (w >> 12 & 255) << 12 | (w >> 20 & 1) << 11 | (w >> 21 & 1023) << 1, 21);
+}
+
+// A quotient or a remainder: 4 and 6 take signed numbers, 5 and 7 unsigned ones. The least number by -1 gives itself and leaves 0.
+static uint64_t divided(uint32_t funct3, uint64_t a, uint64_t b) {
+    if (b == 0) return funct3 < 6 ? ~0ull : a;
+    if (funct3 & 1) return funct3 < 6 ? a / b : a % b;
+    if (b == ~0ull) return funct3 < 6 ? -a : 0;
+    return funct3 < 6 ? (int64_t)a / (int64_t)b : (int64_t)a % (int64_t)b;
+}
+
+static uint64_t product_or_quotient(uint32_t funct3, uint64_t a, uint64_t b) {
+    switch (funct3) {
+    case 0: return a * b;
+    case 1: return (__int128)(int64_t)a * (int64_t)b >> 64;
+    case 2: return (__int128)(int64_t)a * (__int128)b >> 64;
+    case 3: return (unsigned __int128)a * b >> 64;
+    default: return divided(funct3, a, b);
+    }
+}
+
+// What an atomic operation stores, of the old value and the register's.
+static uint64_t combined(uint32_t top, uint64_t a, uint64_t b) {
+    switch (top) {
+    case 0x00: return a + b;
+    case 0x01: return b;
+    case 0x04: return a ^ b;
+    case 0x08: return a | b;
+    case 0x0c: return a & b;
+    case 0x10: return (int64_t)b < (int64_t)a ? b : a;
+    case 0x14: return (int64_t)a < (int64_t)b ? b : a;
+    case 0x18: return b < a ? b : a;
+    default: return a < b ? b : a;
+    }
 }
 
 static enum stop step(void) {
@@ -140,6 +174,9 @@ static enum stop step(void) {
         case 0x105: v = (int64_t)a >> (b & 63); break;
         case 6: v = a | b; break;
         case 7: v = a & b; break;
+        case 8: case 9: case 10: case 11: case 12: case 13: case 14: case 15:
+            v = product_or_quotient(funct3, a, b);
+            break;
         default: return ILLEGAL;
         }
         break;
@@ -150,9 +187,27 @@ static enum stop step(void) {
         case 1: v = sext(a << (b & 31), 32); break;
         case 5: v = sext((uint32_t)a >> (b & 31), 32); break;
         case 0x105: v = (int64_t)((int32_t)a >> (b & 31)); break;
+        case 8: v = sext(a * b, 32); break;
+        case 12: case 14: v = sext(divided(funct3, sext(a, 32), sext(b, 32)), 32); break;
+        case 13: case 15: v = sext(divided(funct3, (uint32_t)a, (uint32_t)b), 32); break;
         default: return ILLEGAL;
         }
         break;
+    case 0x2f: {
+        uint64_t size = 1u << funct3;
+        if (funct3 >> 1 != 1 || !(0x11111113u >> (w >> 27) & 1)) return ILLEGAL;
+        if (a & (size - 1)) return MISALIGNED;
+        at = bytes_at(a, size, 1);
+        if (!at || !bytes_at(a, size, 2)) return FAULT;
+        memcpy(&v, at, size);
+        if (size == 4) {
+            v = sext(v, 32);
+            b = sext(b, 32);
+        }
+        b = combined(w >> 27, v, b);
+        memcpy(at, &b, size);
+        break;
+    }
     case 0x0f:
         if (funct3) return ILLEGAL;
         pc = next;

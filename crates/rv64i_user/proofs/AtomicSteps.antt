@@ -170,3 +170,15 @@ not-read i r m s h load =
     let a = address i r in
     let y = load-lacks m a (am_size i.op) s (is-size i.op) h (address-small i r) load (lacks m access.Read (a / 4096)) refl in
     sym (chosen i r m true true (lacks m access.Write (a / 4096)) (aligned a (am_size i.op) h) y refl)
+
+-- the page may be read, and was written if its stop says so
+ended-by : (b : Bool) (i : AmIns) (r q : Regs) (m w : Memory) (old v : ℕ) (s t : Stop) → is_on t ≡ b → address i r % am_size i.op ≡ 0
+    → (Some old, s) ≡ load_case (loaded m (address i r) (am_size i.op)) → v ≡ am_result i.op old (reg r i.rs2)
+    → (t, w) ≡ store_outcome (stored m (address i r) (am_size i.op) v) → q ≡ (if b then gives r i.rd (old_value i.op old) else r) → outcome q w t ≡ do_atomic i r m
+ended-by true i r q m w old v s t on h load value store regs = updated i r q m w old v s t h load value store on regs
+ended-by false i r q m w old v s t off h load value store regs = ap (λ x. outcome x w t) regs ∙ not-written i r m w v t h store off
+
+pub ended : (i : AmIns) (r q : Regs) (m w : Memory) (old v : ℕ) (s t : Stop) → address i r % am_size i.op ≡ 0
+    → (Some old, s) ≡ load_case (loaded m (address i r) (am_size i.op)) → v ≡ am_result i.op old (reg r i.rs2)
+    → (t, w) ≡ store_outcome (stored m (address i r) (am_size i.op) v) → q ≡ (if is_on t then gives r i.rd (old_value i.op old) else r) → outcome q w t ≡ do_atomic i r m
+ended i r q m w old v s t h load value store regs = ended-by (is_on t) i r q m w old v s t refl h load value store regs

@@ -4,6 +4,8 @@ use Rattle.std.specs.Int.{w32, cast_signed, cast_unsigned}
 use Rattle.mck_word.specs.declared.Regs.{Regs}
 use Rattle.isa_model.specs.declared.names.Op.{Op}
 use Rattle.isa_model.specs.declared.names.Op.TheVariants as ops
+use Rattle.isa_model.specs.declared.atomics.AmOp.{AmOp}
+use Rattle.isa_model.specs.declared.atomics.AmOp.TheVariants as ams
 use Rattle.isa_model.specs.declared.forms.Form.{Form}
 use Rattle.isa_model.specs.declared.forms.Form.TheVariants.{R, I, S, B, U, J}
 use Rattle.isa_model.specs.declared.kinds.Kind.{Kind}
@@ -11,14 +13,16 @@ use Rattle.isa_model.specs.declared.kinds.Kind.TheVariants as kinds
 use Rattle.isa_model.specs.declared.stops.Stop.{Stop}
 use Rattle.isa_model.specs.declared.stops.Stop.TheVariants.{On, Ecall, Break}
 use Rattle.isa_model.specs.Arith.{add_of}
-use Rattle.isa_model.specs.Instr.{Outcome, outcome, beside, jumps, do_j, execute, instr, wide_of}
+use Rattle.isa_model.specs.Atomics.{AmIns, is_atomic}
+use Rattle.isa_model.specs.Instr.{Outcome, outcome, beside, jumps, do_arith, do_atomic, do_j, do_load, execute, instr, wide_of}
 use Rattle.isa_model.specs.Kinds.{kind_of}
 use Rattle.isa_model.specs.Memory.{Memory}
 use Rattle.isa_model.specs.Registers.{reg, goes_on}
-use Rattle.rv64i_user.specs.declared.slots.Act.{Act}
-use Rattle.rv64i_user.specs.declared.slots.Act.TheVariants as acts
+use Rattle.rv64i_user.specs.declared.acts.Act.{Act}
+use Rattle.rv64i_user.specs.declared.acts.Act.TheVariants as acts
 use Rattle.rv64i_user.specs.declared.slots.Next.{Next}
 use Rattle.rv64i_user.specs.declared.slots.Next.TheVariants as next
+use Rattle.rv_am.specs.Words.{am}
 
 -- the registers at a place in the code
 abbrev pub at_pc : ℕ → List ℕ → Regs
@@ -93,62 +97,108 @@ u_act ops.Auipc = acts.Auipc
 u_act _ = acts.Other
 
 -- an instruction with the fields of I that writes register 0
-abbrev pub nowhere : Kind → Act
-nowhere kinds.Load = acts.Other
-nowhere kinds.Jump = acts.JumpTo
-nowhere kinds.Nothing = acts.Nothing
-nowhere kinds.Call = acts.Ecall
-nowhere kinds.Break = acts.Ebreak
-nowhere kinds.Compute = acts.Nothing
+abbrev pub nowhere : Kind → Op → Act
+nowhere kinds.Load op = acts.Touch op
+nowhere kinds.Jump op = acts.JumpTo
+nowhere kinds.Nothing op = acts.Nothing
+nowhere kinds.Call op = acts.Ecall
+nowhere kinds.Break op = acts.Ebreak
+nowhere kinds.Compute op = acts.Nothing
 
-abbrev pub act_in : Option Form → Act
-act_in None = acts.Other
-act_in (Some (R op d a b)) = if d == 0 then acts.Nothing else r_act op
-act_in (Some (I op d a z)) = if d == 0 then nowhere (kind_of op) else i_act op
-act_in (Some (S op a b z)) = s_act op
-act_in (Some (B op a b z)) = b_act op
-act_in (Some (U op d n)) = if d == 0 then acts.Nothing else u_act op
-act_in (Some (J op d z)) = if d == 0 then acts.Jump else acts.Jal
+abbrev pub act_in : Form → Act
+act_in (R op d a b) = if d == 0 then acts.Nothing else r_act op
+act_in (I op d a z) = if d == 0 then nowhere (kind_of op) op else i_act op
+act_in (S op a b z) = s_act op
+act_in (B op a b z) = b_act op
+act_in (U op d n) = if d == 0 then acts.Nothing else u_act op
+act_in (J op d z) = if d == 0 then acts.Jump else acts.Jal
 
 -- a register that may be written: 1 in place of 0
 abbrev pub writable : ℕ → ℕ
 writable d = if d == 0 then 1 else d
 
-abbrev pub rd_in : Option Form → ℕ
-rd_in None = 1
-rd_in (Some (R op d a b)) = writable d
-rd_in (Some (I op d a z)) = writable d
-rd_in (Some (S op a b z)) = 1
-rd_in (Some (B op a b z)) = 1
-rd_in (Some (U op d n)) = writable d
-rd_in (Some (J op d z)) = writable d
+abbrev pub rd_in : Form → ℕ
+rd_in (R op d a b) = writable d
+rd_in (I op d a z) = writable d
+rd_in (S op a b z) = 1
+rd_in (B op a b z) = 1
+rd_in (U op d n) = writable d
+rd_in (J op d z) = writable d
 
-abbrev pub rs1_in : Option Form → ℕ
-rs1_in None = 0
-rs1_in (Some (R op d a b)) = a
-rs1_in (Some (I op d a z)) = a
-rs1_in (Some (S op a b z)) = a
-rs1_in (Some (B op a b z)) = a
-rs1_in (Some (U op d n)) = 0
-rs1_in (Some (J op d z)) = 0
+abbrev pub rs1_in : Form → ℕ
+rs1_in (R op d a b) = a
+rs1_in (I op d a z) = a
+rs1_in (S op a b z) = a
+rs1_in (B op a b z) = a
+rs1_in (U op d n) = 0
+rs1_in (J op d z) = 0
 
-abbrev pub rs2_in : Option Form → ℕ
-rs2_in None = 0
-rs2_in (Some (R op d a b)) = b
-rs2_in (Some (I op d a z)) = 0
-rs2_in (Some (S op a b z)) = b
-rs2_in (Some (B op a b z)) = b
-rs2_in (Some (U op d n)) = 0
-rs2_in (Some (J op d z)) = 0
+abbrev pub rs2_in : Form → ℕ
+rs2_in (R op d a b) = b
+rs2_in (I op d a z) = 0
+rs2_in (S op a b z) = b
+rs2_in (B op a b z) = b
+rs2_in (U op d n) = 0
+rs2_in (J op d z) = 0
 
-abbrev pub imm_in : Option Form → ℤ
-imm_in None = pos 0
-imm_in (Some (R op d a b)) = pos 0
-imm_in (Some (I op d a z)) = z
-imm_in (Some (S op a b z)) = z
-imm_in (Some (B op a b z)) = z
-imm_in (Some (U op d n)) = cast_signed w32 n
-imm_in (Some (J op d z)) = z
+abbrev pub imm_in : Form → ℤ
+imm_in (R op d a b) = pos 0
+imm_in (I op d a z) = z
+imm_in (S op a b z) = z
+imm_in (B op a b z) = z
+imm_in (U op d n) = cast_signed w32 n
+imm_in (J op d z) = z
+
+-- ---- what an instruction of M or A says as a slot
+
+abbrev pub am_act : AmOp → Act
+am_act ams.Mul = acts.Mul
+am_act ams.Mulh = acts.Mulh
+am_act ams.Mulhsu = acts.Mulhsu
+am_act ams.Mulhu = acts.Mulhu
+am_act ams.Div = acts.Div
+am_act ams.Divu = acts.Divu
+am_act ams.Rem = acts.Rem
+am_act ams.Remu = acts.Remu
+am_act ams.Mulw = acts.Mulw
+am_act ams.Divw = acts.Divw
+am_act ams.Divuw = acts.Divuw
+am_act ams.Remw = acts.Remw
+am_act ams.Remuw = acts.Remuw
+am_act op = acts.Amo op
+
+-- one that writes register 0
+abbrev pub am_nowhere : AmOp → Act
+am_nowhere op = if is_atomic op then acts.Update op else acts.Nothing
+
+abbrev pub am_act_in : AmIns → Act
+am_act_in i = if i.rd == 0 then am_nowhere i.op else am_act i.op
+
+-- ---- what a word says as a slot: a form, an instruction of M or A, or nothing
+
+abbrev pub act_by : Option Form → Option AmIns → Act
+act_by (Some form) i = act_in form
+act_by None (Some i) = am_act_in i
+act_by None None = acts.Other
+
+abbrev pub rd_by : Option Form → Option AmIns → ℕ
+rd_by (Some form) i = rd_in form
+rd_by None (Some i) = writable i.rd
+rd_by None None = 1
+
+abbrev pub rs1_by : Option Form → Option AmIns → ℕ
+rs1_by (Some form) i = rs1_in form
+rs1_by None (Some i) = i.rs1
+rs1_by None None = 0
+
+abbrev pub rs2_by : Option Form → Option AmIns → ℕ
+rs2_by (Some form) i = rs2_in form
+rs2_by None (Some i) = i.rs2
+rs2_by None None = 0
+
+abbrev pub imm_by : Option Form → Option AmIns → ℤ
+imm_by (Some form) i = imm_in form
+imm_by None i = pos 0
 
 -- ---- what a slot does
 
@@ -204,6 +254,22 @@ does acts.Subw d a b z r m = execute (R ops.Subw d a b) r m
 does acts.Sllw d a b z r m = execute (R ops.Sllw d a b) r m
 does acts.Srlw d a b z r m = execute (R ops.Srlw d a b) r m
 does acts.Sraw d a b z r m = execute (R ops.Sraw d a b) r m
+does acts.Mul d a b z r m = outcome (do_arith (am ams.Mul d a b 0) r) m On
+does acts.Mulh d a b z r m = outcome (do_arith (am ams.Mulh d a b 0) r) m On
+does acts.Mulhsu d a b z r m = outcome (do_arith (am ams.Mulhsu d a b 0) r) m On
+does acts.Mulhu d a b z r m = outcome (do_arith (am ams.Mulhu d a b 0) r) m On
+does acts.Div d a b z r m = outcome (do_arith (am ams.Div d a b 0) r) m On
+does acts.Divu d a b z r m = outcome (do_arith (am ams.Divu d a b 0) r) m On
+does acts.Rem d a b z r m = outcome (do_arith (am ams.Rem d a b 0) r) m On
+does acts.Remu d a b z r m = outcome (do_arith (am ams.Remu d a b 0) r) m On
+does acts.Mulw d a b z r m = outcome (do_arith (am ams.Mulw d a b 0) r) m On
+does acts.Divw d a b z r m = outcome (do_arith (am ams.Divw d a b 0) r) m On
+does acts.Divuw d a b z r m = outcome (do_arith (am ams.Divuw d a b 0) r) m On
+does acts.Remw d a b z r m = outcome (do_arith (am ams.Remw d a b 0) r) m On
+does acts.Remuw d a b z r m = outcome (do_arith (am ams.Remuw d a b 0) r) m On
+does (acts.Amo op) d a b z r m = do_atomic (am op d a b 0) r m
+does (acts.Update op) d a b z r m = do_atomic (am op 0 a b 0) r m
+does (acts.Touch op) d a b z r m = beside m (do_load op 0 (add_of (reg r a) (wide_of z)) r m)
 does acts.Nothing d a b z r m = outcome (goes_on r) m On
 does acts.Ecall d a b z r m = outcome r m Ecall
 does acts.Ebreak d a b z r m = outcome r m Break

@@ -1,16 +1,18 @@
 // What slots do to the registers, with the place in the code beside them and register 0 holding 0.
 ghost use Rattle.std.specs.Prelude.{◌≡◌, ◌<◌, ◌*◌, ◌%◌, ◌^◌, ◌/◌, ◌+◌, slice_set};
 ghost use Rattle.isa_model.specs.Arith.{computed};
-ghost use Rattle.isa_model.specs.Instr.{do_b, do_r, do_u, gives, jumps, wide_of};
+ghost use Rattle.isa_model.specs.Instr.{do_arith, do_b, do_r, do_u, gives, jumps, wide_of};
 ghost use Rattle.isa_model.specs.Registers.{reg};
 ghost use Rattle.isa_model.specs.declared.stops.Stop.TheVariants.{On};
 ghost use Rattle.rv64i_user.specs.Slots.{Ends, HasZero, at_pc};
 ghost use Rattle.std.specs.Int.{cast_unsigned, w32};
+ghost use Rattle.rv_am.specs.Words.{am};
 
 use crate::arith::{compute, taken, wide};
 use crate::slots::{Next, Slot};
-use isa_model::{Op, Stop};
+use isa_model::{AmOp, Op, Stop};
 use mck_word::sext;
+use rv_am::result_of;
 
 // A register's value.
 #[inline(always)]
@@ -66,6 +68,18 @@ pub fn by_registers(x: &mut [u64; 32], pc: &mut u64, slot: &Slot, op: Op) -> Nex
     ensures zero { HasZero x.new }
 {
     let v = compute(op, get(x, slot.rs1), get(x, slot.rs2));
+    give(x, pc, slot, v)
+}
+
+// Multiplies or divides.
+#[inline(always)]
+pub fn by_product(x: &mut [u64; 32], pc: &mut u64, slot: &Slot, op: AmOp) -> Next
+    requires zero { HasZero x.old }
+    ensures did { at_pc pc.new x.new ≡ do_arith (am op slot.now.rd slot.now.rs1 slot.now.rs2 0) (at_pc pc.old x.old) }
+    ensures ends { Ends result pc.old pc.new On }
+    ensures zero { HasZero x.new }
+{
+    let v = result_of(op, get(x, slot.rs1), get(x, slot.rs2));
     give(x, pc, slot, v)
 }
 

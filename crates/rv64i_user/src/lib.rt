@@ -8,6 +8,7 @@
 #![tactic(auto)]
 
 mod across;
+mod acts;
 mod arith;
 mod atomic;
 mod flat;
@@ -23,6 +24,7 @@ mod page_runs;
 mod registers;
 mod running;
 mod several;
+mod slot_atomics;
 mod slot_runs;
 mod slot_steps;
 mod slots;

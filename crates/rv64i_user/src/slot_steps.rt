@@ -8,14 +8,18 @@ ghost use Rattle.rv64i_user.specs.Places.{bytes_of};
 ghost use Rattle.rv64i_user.specs.Slots.{Ends, HasZero, at_pc, does, stays};
 ghost use Rattle.rv64i_user.specs.Stopping.{is_on};
 
+use crate::acts::Act;
 use crate::arith::{bytes_loaded, bytes_stored, extended, wide};
-use crate::flat::{advance, branch, by_immediate, by_registers, get, give, jump, link, upper};
+use crate::flat::{
+    advance, branch, by_immediate, by_product, by_registers, get, give, jump, link, upper,
+};
 use crate::kept::Kept;
 use crate::memory::UserMem;
 use crate::page_memory::PageMem;
-use crate::slots::{Act, Next, Slot};
+use crate::slot_atomics::atomic;
+use crate::slots::{Next, Slot};
 use crate::steps::step_to;
-use isa_model::{Op, Stop};
+use isa_model::{AmOp, Op, Stop};
 use mck_word::Regs;
 
 // The address that a slot names.
@@ -46,6 +50,29 @@ fn load<P: PageMem>(
 {
     match mem.load_to(address(x, slot), bytes_loaded(op), stop) {
         Some(v) => give(x, pc, slot, extended(op, v)),
+        None => Next::Leave,
+    }
+}
+
+// A load whose value goes nowhere.
+#[inline(never)]
+#[tactic(auto, unfolding(isa_model::specs::Instr::do_load))]
+fn touch<P: PageMem>(
+    x: &[u64; 32],
+    pc: &mut u64,
+    mem: &Kept<P>,
+    stop: &mut Stop,
+    slot: &Slot,
+    op: Op,
+) -> Next
+    requires on { stop.old ≡ On }
+    requires zero { HasZero x.now }
+    ensures did { (at_pc pc.new x.now, stop.new)
+        ≡ do_load op 0 (add_of (reg (at_pc 0 x.now) slot.now.rs1) (wide_of slot.now.imm)) (at_pc pc.old x.now) (P.memory mem.now.mem) }
+    ensures ends { Ends result pc.old pc.new stop.new }
+{
+    match mem.load_to(address(x, slot), bytes_loaded(op), stop) {
+        Some(_value) => advance(pc),
         None => Next::Leave,
     }
 }
@@ -190,6 +217,22 @@ pub fn one<P: PageMem>(
         Act::Sllw => by_registers(x, pc, slot, Op::Sllw),
         Act::Srlw => by_registers(x, pc, slot, Op::Srlw),
         Act::Sraw => by_registers(x, pc, slot, Op::Sraw),
+        Act::Mul => by_product(x, pc, slot, AmOp::Mul),
+        Act::Mulh => by_product(x, pc, slot, AmOp::Mulh),
+        Act::Mulhsu => by_product(x, pc, slot, AmOp::Mulhsu),
+        Act::Mulhu => by_product(x, pc, slot, AmOp::Mulhu),
+        Act::Div => by_product(x, pc, slot, AmOp::Div),
+        Act::Divu => by_product(x, pc, slot, AmOp::Divu),
+        Act::Rem => by_product(x, pc, slot, AmOp::Rem),
+        Act::Remu => by_product(x, pc, slot, AmOp::Remu),
+        Act::Mulw => by_product(x, pc, slot, AmOp::Mulw),
+        Act::Divw => by_product(x, pc, slot, AmOp::Divw),
+        Act::Divuw => by_product(x, pc, slot, AmOp::Divuw),
+        Act::Remw => by_product(x, pc, slot, AmOp::Remw),
+        Act::Remuw => by_product(x, pc, slot, AmOp::Remuw),
+        Act::Amo(op) => atomic(x, pc, mem, stop, slot, op, slot.rd),
+        Act::Update(op) => atomic(x, pc, mem, stop, slot, op, 0),
+        Act::Touch(op) => touch(x, pc, mem, stop, slot, op),
         Act::Nothing => advance(pc),
         Act::Ecall => {
             *stop = Stop::Ecall;

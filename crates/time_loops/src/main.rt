@@ -6,7 +6,7 @@ mod loops;
 mod start;
 
 use isa_model::Stop;
-use loops::{CALLS, CHECKSUM, NESTED, SIEVE};
+use loops::{CALLS, CHECKSUM, COUNTERS, NESTED, PRODUCTS, SIEVE};
 use mck_word::Regs;
 use paged_memory::PagedRows;
 use rv64i_user::{Kept, KnownWords, run_known};
@@ -53,11 +53,13 @@ fn main(rt: HostRuntime) -> anyhow::Result<()> {
         Some(word) => word.as_str() == "time",
         None => false,
     };
-    let loops: [(&'static str, &'static [u32]); 4] = [
+    let loops: [(&'static str, &'static [u32]); 6] = [
         ("sieve", &SIEVE),
         ("checksum", &CHECKSUM),
         ("nested", &NESTED),
         ("calls", &CALLS),
+        ("products", &PRODUCTS),
+        ("counters", &COUNTERS),
     ];
     let Ok(mut known) = KnownWords::new(rt.alloc()) else {
         println!(rt; "no memory")?;
