@@ -1,5 +1,5 @@
 -- What a device tells, and what a call of it may do.
-use Rattle.std.specs.Prelude.{◌≡◌, ℕ, ◌-◌, ◌^◌, ◌≤◌, List, ◌++◌, Option, Some, None, take}
+use Rattle.std.specs.Prelude.{◌≡◌, ℕ, ◌-◌, ◌^◌, ◌≤◌, ◌<◌, List, ◌++◌, Option, Some, None, length, take}
 
 -- What a host that tells its bytes has under each name: the bytes, or none.
 abbrev pub Held : Type 0
@@ -27,6 +27,6 @@ pub record HostGoesOn {H : Type 0} (holds : H → Option Held) (faults : H → L
 abbrev pub Takes : Option (List ℕ) → List ℕ → Option (List ℕ) → Type 0
 Takes old bytes new = (had : List ℕ) → old ≡ Some had → new ≡ Some (had ++ bytes)
 
--- A front of the bytes was taken.
+-- A front of the bytes was taken, and not all of them.
 abbrev pub TakesFront : Option (List ℕ) → List ℕ → Option (List ℕ) → Type 0
-TakesFront old bytes new = (n : ℕ) × Takes old (take n bytes) new
+TakesFront old bytes new = (n : ℕ) × (n < length bytes) × Takes old (take n bytes) new

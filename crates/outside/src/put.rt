@@ -3,7 +3,7 @@ ghost use Rattle.outside.specs.Outside.{Rose, Takes, TakesFront};
 
 use crate::sink::{Failed, Sink};
 
-/// Puts all of the text. At an `Err` a front of it was taken.
+/// Puts all of the text. At an `Err` a front of it was taken, and not all of it.
 pub fn put_all<S: Sink>(sink: &mut S, text: &[u8]) -> Result<(), Failed>
     ensures rises { S.faults sink.old ≤ S.faults sink.new }
     ensures ok { OnOk result (Takes (S.taken sink.old) text.now (S.taken sink.new)) }
