@@ -1,4 +1,6 @@
+pub mod Offered
 pub mod Passed
 pub mod Places
 pub mod Rising
 pub mod Turned
+pub mod Walked

@@ -1,2 +1,3 @@
 pub mod Turns
 pub mod Passing
+pub mod Walking

@@ -6,7 +6,7 @@ use Rattle.hybrid_model.specs.declared.events.Event.{Event}
 use Rattle.ihk_parts.specs.Turns.{chosen, event_of, first_turn, generator, turn_after, turn_at, word, words_of}
 use Rattle.ihk_parts.specs.declared.turn.Turn.TheVariants.{Drawn, Round}
 use Rattle.ihk_parts.specs.declared.turn.Turn.{Turn}
-use Rattle.mcexec_run.specs.Walking.{Follows, walker_at}
+use Rattle.ihk_parts.specs.Walking.{Follows, walker_at}
 use Rattle.run_model.specs.Walks.{Chosen, Walker, moved, next_choice, walk_for}
 use Rattle.std.proofs.Common.{Bool, List, None, Option, Some, add-one, ap, cond, false, length, refl, subst, suc, sym, true, ℕ, [], ◌&&◌, ◌+◌, ◌++◌, ◌==◌, ◌∙◌, ◌∷◌, ◌≡◌, zero}
 use Rattle.std.specs.Option.{MatchOption, option_map}

@@ -1,7 +1,7 @@
 use Rattle.hybrid_model.specs.Journals.{may_all, state}
 use Rattle.ihk_parts.specs.Turns.{first_turn}
-use Rattle.mcexec_run.proofs.walking.walk_journal.Given as goal
-use Rattle.mcexec_run.specs.Walking.{Follows}
+use Rattle.ihk_parts.proofs.walking.walk_journal.Given as goal
+use Rattle.ihk_parts.specs.Walking.{Follows}
 use Rattle.std.proofs.Common.{true, ◌≡◌}
 use Rattle.work_laws.specs.Left.{left}
 

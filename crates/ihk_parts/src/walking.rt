@@ -2,12 +2,12 @@
 ghost use Rattle.hybrid_model.specs.Journals.{ending, may_all, state};
 ghost use Rattle.hybrid_model.specs.declared.events.Ending.TheVariants.{Unfinished};
 ghost use Rattle.ihk_parts.specs.Turns.{first_turn, words_of};
-ghost use Rattle.mcexec_run.specs.Walking.{Follows, LeavesLess, walker_at};
+ghost use Rattle.ihk_parts.specs.Walking.{Follows, LeavesLess, walker_at};
 ghost use Rattle.run_model.specs.Walks.{walk_for};
 ghost use Rattle.std.specs.Prelude.{◌≡◌, ◌≢◌, ◌+◌, [], OnOk, length, true};
 
+use crate::walker::Walker;
 use hybrid_model::Event;
-use ihk_parts::Walker;
 use mck_word::{Items, NoMemory};
 use node_machine::Machine;
 

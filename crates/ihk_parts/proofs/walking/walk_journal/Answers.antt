@@ -1,11 +1,11 @@
 use Rattle.hybrid_model.specs.Events.{after, may}
 use Rattle.ihk_parts.specs.Turns.{chosen, first_turn}
-use Rattle.mcexec_run.proofs.Offered.{chosen_none, chosen_offered}
-use Rattle.mcexec_run.proofs.Walked.{follows_on, front, legal_on, state_on, taken, turned, untaken, whole}
-use Rattle.mcexec_run.proofs.walking.walk_journal.Goals as goal
+use Rattle.ihk_parts.proofs.Offered.{chosen_none, chosen_offered}
+use Rattle.ihk_parts.proofs.Walked.{follows_on, front, legal_on, state_on, taken, turned, untaken, whole}
+use Rattle.ihk_parts.proofs.walking.walk_journal.Goals as goal
 use Rattle.run_model.specs.Walks.{walk_for}
 use Rattle.ihk_parts.specs.Turns.{words_of}
-use Rattle.mcexec_run.specs.Walking.{walker_at}
+use Rattle.ihk_parts.specs.Walking.{walker_at}
 use Rattle.hybrid_model.specs.declared.events.Event.{Event}
 use Rattle.std.proofs.Common.{List, Some, ap, length, subst, sym, true, ◌<◌, ◌∙◌, ◌≡◌}
 use Rattle.work_laws.specs.Left.{left}
