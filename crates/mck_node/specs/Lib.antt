@@ -1,0 +1,4 @@
+pub mod Beginnings
+pub mod Histories
+pub mod Codes
+pub mod Commits
