@@ -1,12 +1,12 @@
 pub mod AuditOutcomes
 pub mod Called
 pub mod Gathered
+pub mod GivenAnswers
 pub mod Grown
 pub mod InStep
 pub mod Names
-pub mod Offered
 pub mod Outcomes
 pub mod ReplayOutcomes
+pub mod RunOutcomes
 pub mod Steps
 pub mod TraceLines
-pub mod Walked

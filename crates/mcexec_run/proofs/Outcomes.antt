@@ -8,7 +8,7 @@ use Rattle.hybrid_model.specs.declared.events.Event.{Event}
 use Rattle.ihk_parts.specs.Turns.{words_of}
 use Rattle.mcexec_run.specs.Chain.{◌>>=◌, Fails, IsRefusal}
 use Rattle.mcexec_run.specs.Outcome.{AllPut, BadLine, CheckOutcome, Completes, CompletesCheck, FrontPut, HostFailed, LeavesWalk, NonePut, NoneStarted, Outcome, Puts, PutsText, RanShort, Refused, Short, Shown, ShowsWalk, SinkFailed, WalkOutcome, Whole, booted, last_state}
-use Rattle.mcexec_run.specs.Walking.{walker_at}
+use Rattle.ihk_parts.specs.Walking.{walker_at}
 use Rattle.mcexec_run.specs.declared.chain.Prepared.{Prepared}
 use Rattle.mck_report.specs.Status.{status_of}
 use Rattle.mck_report.specs.declared.status.Status.TheVariants.{BadElf, BadJob, Done, HostFault, LongFile, NoFrames, NoMemory}
@@ -80,7 +80,7 @@ with_job found f v SoFar Bad Shows status journal old new e o =
     subst (λ ready. Outcome ready SoFar Bad Shows status journal old new) (sym (gathered_first found f v e)) o
 
 -- what a walk comes to where nothing fails
-same_start : (ready : Result Prepared Status) (p q : Prepared) → ready ≡ Ok p → ready ≡ Ok q → p ≡ q
+pub same_start : (ready : Result Prepared Status) (p q : Prepared) → ready ≡ Ok p → ready ≡ Ok q → p ≡ q
 same_start ready p q a b = cc
 
 pub completes : (ready : Result Prepared Status) (order : ℕ) (write : Pair → List Event → List ℕ) (status : Status) (journal : List Event) (old new : Option (List ℕ)) → WalkOutcome ready order write status journal old new → Completes ready order write status journal

@@ -7,7 +7,7 @@ use Rattle.mcexec_run.proofs.Outcomes.{Claimed}
 use Rattle.mcexec_run.proofs.TraceLines.{front_of, not_refused, same_refusal, same_trace}
 use Rattle.mcexec_run.specs.Chain.{◌>>=◌, Fails, fetched, gathered, or_no_frames, with_frames}
 use Rattle.mcexec_run.specs.Outcome.{AllPut, BadLine, FrontPut, HostFailed, NonePut, NoneStarted, Puts, RanShort, Refused, Shown, SinkFailed, booted, last_state, text_at}
-use Rattle.mcexec_run.specs.Replaying.{CompletesReplay, FirstRefused, IsFront, IsTraceOf, RefusesLine, ReplayOutcome, ShowsReplay, Traced, traced, with_bytes, with_trace}
+use Rattle.mcexec_run.specs.Replaying.{CompletesReplay, FirstRefused, IsFront, IsTraceOf, RefusesLine, ReplayOutcome, ShowsReplay, Traced, traced, with_bytes, with_given, with_trace}
 use Rattle.mcexec_run.specs.declared.chain.Prepared.{Prepared}
 use Rattle.mcexec_run.specs.declared.command.Form.TheVariants.{Report}
 use Rattle.mck_report.specs.Status.{status_of}
@@ -67,7 +67,7 @@ no_trace held trace p HostFault w f = tt
 no_trace held trace p status w f = ap (λ r. r >>= λ start. with_bytes start (fetched (held trace))) w ∙ ap (with_bytes p) f
 
 -- where frames suffice, the job stays as it is
-frames_same : (p q : Prepared) (lack : Option Shortage) → or_no_frames p lack ≡ Ok q → q ≡ p
+pub frames_same : (p q : Prepared) (lack : Option Shortage) → or_no_frames p lack ≡ Ok q → q ≡ p
 frames_same p q None e = cc
 frames_same p q (Some lack) e = cc
 
@@ -75,13 +75,16 @@ bytes_same : (p : Prepared) (found : Result (List ℕ) Status) (t : Traced) → 
 bytes_same p (Ok bytes) t e = (let s : t ≡ record { start = p; trace = bytes } = cc in ap (λ (x : Traced). x.start) s)
 bytes_same p (Err status) t e = cc
 
-framed : (held : Held) (trace : List ℕ) (p : Prepared) (r : Result Prepared Status) (t : Traced) → ((q : Prepared) → r ≡ Ok q → q ≡ p) → (r >>= λ start. with_bytes start (fetched (held trace))) ≡ Ok t → t.start ≡ p
-framed held trace p (Ok q) t h e = bytes_same q (fetched (held trace)) t e ∙ h q refl
-framed held trace p (Err status) t h e = cc
+pub framed : (found : Result (List ℕ) Status) (p : Prepared) (r : Result Prepared Status) (t : Traced) → ((q : Prepared) → r ≡ Ok q → q ≡ p) → (r >>= λ start. with_bytes start found) ≡ Ok t → t.start ≡ p
+framed found p (Ok q) t h e = bytes_same q found t e ∙ h q refl
+framed found p (Err status) t h e = cc
 
 pub start_is : (held : Held) (job trace : List ℕ) (p : Prepared) (t : Traced) → gathered held job ≡ Ok p → traced held job trace ≡ Ok t → t.start ≡ p
 start_is held job trace p t g e =
-    framed held trace p (with_frames p) t (λ q w. frames_same p q (shortage p.job p.images) w) (sym (ap (λ r. r >>= with_trace held trace) g) ∙ e)
+    framed (fetched (held trace)) p (with_frames p) t (λ q w. frames_same p q (shortage p.job p.images) w) (sym (ap (λ r. r >>= with_trace held trace) g) ∙ e)
+
+pub start_of : (trace : List ℕ) (p : Prepared) (t : Traced) → with_given trace p ≡ Ok t → t.start ≡ p
+start_of trace p t e = framed (Ok trace) p (with_frames p) t (λ q w. frames_same p q (shortage p.job p.images) w) e
 
 -- ---- what a replay comes to where nothing fails
 

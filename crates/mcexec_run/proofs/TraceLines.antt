@@ -3,7 +3,7 @@ use Rattle.hybrid_model.specs.Events.{after, may}
 use Rattle.hybrid_model.specs.Journals.{may_all, state}
 use Rattle.hybrid_model.specs.Pairs.{Pair}
 use Rattle.hybrid_model.specs.declared.events.Event.{Event}
-use Rattle.mcexec_run.proofs.Walked.{both_true}
+use Rattle.ihk_parts.proofs.Walked.{both_true}
 use Rattle.mcexec_run.specs.Replaying.{Begins, FirstRefused, FrontBehind, IsFront, IsTraceOf, NoEvent, NoVersion, RefusedBehind}
 use Rattle.mck_report.proofs.Journals.{entries_fit, entries_of, no_line, same_front, same_read, same_version, spells}
 use Rattle.mck_report.proofs.Lines.{text_of-append}

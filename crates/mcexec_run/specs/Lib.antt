@@ -2,10 +2,11 @@ pub mod Audits
 pub mod Calls
 pub mod Chain
 pub mod Commands
+pub mod Given
 pub mod Growing
 pub mod Lockstep
 pub mod OneCodes
 pub mod Outcome
 pub mod Replaying
-pub mod Walking
+pub mod Running
 pub mod Writing

@@ -68,6 +68,10 @@ with_bytes start found = found >>= λ bytes. Ok (record { start = start; trace =
 abbrev pub with_trace : Held → List ℕ → Prepared → Result Traced Status
 with_trace held trace p = with_frames p >>= λ start. with_bytes start (fetched (held trace))
 
+-- the same of the bytes of a trace that are handed in
+abbrev pub with_given : List ℕ → Prepared → Result Traced Status
+with_given trace p = with_frames p >>= λ start. with_bytes start (Ok trace)
+
 abbrev pub traced : Held → List ℕ → List ℕ → Result Traced Status
 traced held job trace = gathered held job >>= with_trace held trace
 

@@ -1,7 +1,8 @@
 // The call of the program.
-ghost use Rattle.mcexec_run.specs.Calls.{CallCompletes, CallMachine, CallOutcome, hands_out, names_to_fetch};
+ghost use Rattle.mcexec_run.specs.Calls.{CallCompletes, CallGiven, CallMachine, CallOutcome, hands_out, names_to_fetch};
 ghost use Rattle.mcexec_run.specs.Chain.{RoseAmong};
 ghost use Rattle.mcexec_run.specs.Commands.{command_of, second_word, third_word};
+ghost use Rattle.mcexec_run.specs.Given.{RoseSomewhere};
 ghost use Rattle.mck_report.specs.declared.status.Status.TheVariants.{HostFault, SinkFault};
 ghost use Rattle.outside.specs.Outside.{HostGoesOn, Rose, WhereTold};
 ghost use Rattle.std.specs.Option.{option_map};
@@ -11,13 +12,17 @@ use crate::audits::{Audited, audit};
 use crate::checks::check;
 use crate::command::{Command, read_command};
 use crate::replays::replay;
+use crate::runs::run;
 use crate::walks::{grow, walk};
 use hybrid_model::Event;
+use mck_crew::Gate;
 use mck_report::Status;
 use mck_word::Items;
 use node_machine::{Machine, SingleKernel};
 use outside::{Host, Sink};
 use std::alloc::Global;
+use std::sync::Wait;
+use std::thread::Threads;
 
 /// How a call ended, and the journal that it kept.
 #[derive(Drop)]
@@ -26,8 +31,8 @@ pub struct Ended {
     pub journal: Items<Event>,
 }
 
-// A call that keeps and writes nothing.
-fn answer(alloc: Global, status: Status) -> Ended
+/// A call that keeps and writes nothing.
+pub fn nothing_kept(alloc: Global, status: Status) -> Ended
     ensures status { result.status ≡ status }
     ensures journal { result.journal ≡ [] }
 {
@@ -71,13 +76,15 @@ fn third_word(words: &[String]) -> &str
 }
 
 /// Runs the command that the words are; each has the clauses of its call. An audit hands out its one-kernel machine where the trace was run to its
-/// end. `run` is not built yet.
-pub fn mcexec<M: Machine, O: SingleKernel, H: Host, S: Sink>(
-    alloc: Global,
-    words: &[String],
-    host: &mut H,
-    sink: &mut S,
-) -> Audited<O>
+/// end. Threads start, and the gate is passed, in `run` alone.
+pub fn mcexec<
+    M: Machine + Send + Sync,
+    O: SingleKernel,
+    G: Gate + Sync,
+    R: Threads + Wait + Sync,
+    H: Host,
+    S: Sink,
+>(rt: &R, gate: &G, alloc: Global, words: &[String], host: &mut H, sink: &mut S) -> Audited<O>
     ensures goes_on { HostGoesOn H.holds H.faults host.old host.new }
     ensures rises { S.faults sink.old ≤ S.faults sink.new }
     ensures outcome { WhereTold (H.holds host.old) (λ held.
@@ -85,8 +92,10 @@ pub fn mcexec<M: Machine, O: SingleKernel, H: Host, S: Sink>(
     ensures hands_out { is_some result.machine ≡ hands_out (command_of words.now) result.status }
     ensures machine { WhereTold (H.holds host.old) (λ held.
         CallMachine (command_of words.now) (second_word words.now) (third_word words.now) held result.status result.journal (option_map O.one result.machine)) }
+    ensures given { CallGiven (command_of words.now) result.status result.journal (option_map O.one result.machine) (S.taken sink.old) (S.taken sink.new) }
     ensures host_fault { WhereTold (H.holds host.old) (λ held.
         result.status ≡ HostFault → RoseAmong H.faults host.old host.new (names_to_fetch (command_of words.now) (second_word words.now) (third_word words.now) held)) }
+    ensures rose { result.status ≡ HostFault → RoseSomewhere H.faults host.old host.new }
     ensures sink_fault { result.status ≡ SinkFault → Rose (S.faults sink.old) (S.faults sink.new) }
     ensures complete { WhereTold (H.holds host.old) (λ held. CallCompletes (command_of words.now) (second_word words.now) (third_word words.now) held result.status result.journal) }
 {
@@ -108,7 +117,10 @@ pub fn mcexec<M: Machine, O: SingleKernel, H: Host, S: Sink>(
             audit::<M, O, H, S>(alloc, second_word(words), third_word(words), host, sink)
         }
         Some(Command::Grow { guests, order }) => alone(grow::<M, S>(alloc, guests, order, sink)),
-        Some(Command::Run { .. }) => alone(answer(alloc, Status::NotBuilt)),
-        None => alone(answer(alloc, Status::BadWords)),
+        Some(Command::Run { form }) => {
+            let job = second_word(words);
+            alone(run::<M, G, R, H, S>(rt, gate, alloc, job, form, host, sink))
+        }
+        None => alone(nothing_kept(alloc, Status::BadWords)),
     }
 }

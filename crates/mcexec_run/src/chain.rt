@@ -1,25 +1,23 @@
 // The chain of refusals before a run.
 ghost use Rattle.job_model.specs.Images.{IsImage};
-ghost use Rattle.job_model.specs.Prepared.{IsPrepared, most_file};
+ghost use Rattle.job_model.specs.Prepared.{IsPrepared};
 ghost use Rattle.job_text.specs.Kept.{IsJob};
-ghost use Rattle.mcexec_run.specs.Chain.{Gives, IsFilled, IsRefusal, RoseAmong, fetched, file_bytes, guest_image, image_name, job_at, names_of_job, take_all, take_file, take_guest, take_input, take_kind, take_source, IsPlaced, IsSource, images_in, images_made, nothing_fetched, gathered, has_to_fetch, prepared_job};
+ghost use Rattle.mcexec_run.specs.Given.{Answer, Answered, RoseSomewhere, gathered_given, take_given};
+ghost use Rattle.mcexec_run.specs.Chain.{Gives, IsFilled, IsRefusal, RoseAmong, image_name, names_of_job, take_all, take_file, take_guest, take_input, take_kind, take_source, IsPlaced, IsSource, images_in, images_made, nothing_fetched, gathered, has_to_fetch, prepared_job};
 ghost use Rattle.job_text.specs.Order.{sources_of};
 ghost use Rattle.job_text.specs.declared.order.SourceKind.TheVariants.{Guest, File, Input};
 ghost use Rattle.std.specs.List.{AllByRecursion};
 ghost use Rattle.mck_report.specs.declared.status.Status.TheVariants.{HostFault};
-ghost use Rattle.outside.specs.Outside.{Held, HostGoesOn, Rose, WhereTold};
-ghost use Rattle.std.specs.Prelude.{◌≡◌, ◌≤◌, ◌<◌, ◌+◌, ◌^◌, [], Some, IfErr, IfOk, IsErrOf, IsUtf8, OnOk, length, slice_get, unwrap_or};
-ghost use Rattle.std.specs.Option.{option_copied};
+ghost use Rattle.outside.specs.Outside.{HostGoesOn, Rose, WhereTold};
+ghost use Rattle.std.specs.Prelude.{◌≡◌, ◌<◌, ◌+◌, Some, IfErr, IfOk, IsErrOf, IsUtf8, List, OnOk, length};
 
-use elf_load::{ElfError, Image, load};
-use job_text::{
-    FileLine, GuestLine, InputLine, Job, JobError, Source, SourceKind, read_job, sources,
-};
+use crate::fetches::{fetch_file, fetch_image, fetch_job};
+use elf_load::Image;
+use job_text::{FileLine, GuestLine, InputLine, Job, Source, SourceKind, sources};
 use mck_report::Status;
 use mck_word::{Bytes, Items, NoMemory};
-use outside::{Fetch, Host};
+use outside::Host;
 use std::alloc::Global;
-use std::str;
 
 /// A job with all that was fetched for it: its files and inputs with their bytes, and one image for each guest.
 #[derive(Drop)]
@@ -34,91 +32,6 @@ pub struct Fetched {
     pub images: Items<Image>,
     pub files: Items<FileLine>,
     pub inputs: Items<InputLine>,
-}
-
-/// The bytes of a name.
-pub fn fetch_name<H: Host>(alloc: Global, host: &mut H, name: &[u8]) -> Result<Vec<u8>, Status>
-    requires { IsUtf8 name.now }
-    ensures goes_on { HostGoesOn H.holds H.faults host.old host.new }
-    ensures refusal { IfErr result IsRefusal }
-    ensures value { WhereTold (H.holds host.old) (λ held. Gives (λ (bytes : _). bytes.items) result (fetched (held name.now))) }
-    ensures fault { IsErrOf result HostFault → Rose (H.faults host.old name.now) (H.faults host.new name.now) }
-{
-    let mut bytes = Vec::new(alloc);
-    let Ok(text) = str::from_utf8(name) else {
-        return Err(Status::HostFault);
-    };
-    match host.fetch(text, &mut bytes) {
-        Ok(()) => Ok(bytes),
-        Err(Fetch::Failed) => Err(Status::HostFault),
-        Err(Fetch::NoMemory) => Err(Status::NoMemory),
-    }
-}
-
-fn image_name(line: &GuestLine) -> &[u8]
-    ensures { result.now ≡ image_name line.now }
-{
-    match line.args.as_slice().first() {
-        Some(name) => name.as_slice(),
-        None => &[],
-    }
-}
-
-// The image of a guest.
-#[tactic(auto, unfolding(crate::specs::Chain::guest_image))]
-fn fetch_image<H: Host>(
-    alloc: Global,
-    host: &mut H,
-    guest: u32,
-    line: &GuestLine,
-) -> Result<Image, Status>
-    requires { IsUtf8 (image_name line.now) }
-    ensures goes_on { HostGoesOn H.holds H.faults host.old host.new }
-    ensures refusal { IfErr result IsRefusal }
-    ensures value { WhereTold (H.holds host.old) (λ held. Gives (λ image. image) result (guest_image held guest line.now)) }
-    ensures fault { IsErrOf result HostFault → Rose (H.faults host.old (image_name line.now)) (H.faults host.new (image_name line.now)) }
-    ensures image { IfOk result IsImage }
-{
-    let bytes = fetch_name(alloc, host, image_name(line))?;
-    match load(alloc, &bytes) {
-        Ok(image) => Ok(image),
-        Err(ElfError::Fault(why)) => Err(Status::BadElf { guest, why }),
-        Err(ElfError::NoMemory) => Err(Status::NoMemory),
-    }
-}
-
-// The bytes of a file or an input.
-#[tactic(auto, unfolding(crate::specs::Chain::file_bytes))]
-fn fetch_file<H: Host>(alloc: Global, host: &mut H, line: u64, name: &[u8]) -> Result<Bytes, Status>
-    requires { IsUtf8 name.now }
-    ensures goes_on { HostGoesOn H.holds H.faults host.old host.new }
-    ensures refusal { IfErr result IsRefusal }
-    ensures value { WhereTold (H.holds host.old) (λ held. Gives (λ bytes. bytes) result (file_bytes held line name.now)) }
-    ensures fault { IsErrOf result HostFault → Rose (H.faults host.old name.now) (H.faults host.new name.now) }
-    ensures short { IfOk result (λ bytes. length bytes ≤ most_file) }
-{
-    let bytes = fetch_name(alloc, host, name)?;
-    if bytes.len() > 1_048_576 {
-        return Err(Status::LongFile(line));
-    }
-    Ok(Bytes::from_vec(bytes))
-}
-
-// The job under a name.
-#[tactic(auto, unfolding(crate::specs::Chain::job_at))]
-fn fetch_job<H: Host>(alloc: Global, host: &mut H, name: &str) -> Result<Job, Status>
-    ensures goes_on { HostGoesOn H.holds H.faults host.old host.new }
-    ensures refusal { IfErr result IsRefusal }
-    ensures value { WhereTold (H.holds host.old) (λ held. Gives (λ job. job) result (job_at held name.now)) }
-    ensures fault { IsErrOf result HostFault → Rose (H.faults host.old name.now) (H.faults host.new name.now) }
-    ensures job { IfOk result IsJob }
-{
-    let text = fetch_name(alloc, host, name.as_bytes())?;
-    match read_job(alloc, &text) {
-        Ok(job) => Ok(job),
-        Err(JobError::Fault(fault)) => Err(Status::BadJob(fault)),
-        Err(JobError::NoMemory) => Err(Status::NoMemory),
-    }
 }
 
 fn file_with(alloc: Global, line: &FileLine, bytes: Bytes) -> Result<FileLine, NoMemory>
@@ -155,6 +68,7 @@ fn take_guest<H: Host>(
     ensures goes_on { HostGoesOn H.holds H.faults host.old host.new }
     ensures refusal { IfErr result IsRefusal }
     ensures value { WhereTold (H.holds host.old) (λ held. Gives (λ _. fetched.new) result (take_guest held guest fetched.old (Some line.now))) }
+    ensures given { Answered (λ held. Gives (λ _. fetched.new) result (take_guest held guest fetched.old (Some line.now))) }
     ensures fault { IsErrOf result HostFault → Rose (H.faults host.old (image_name line.now)) (H.faults host.new (image_name line.now)) }
     ensures kept { IsFilled fetched.old → IsFilled fetched.new }
     ensures count { OnOk result (length fetched.new.images ≡ length fetched.old.images + 1) }
@@ -175,6 +89,7 @@ fn take_file<H: Host>(
     ensures goes_on { HostGoesOn H.holds H.faults host.old host.new }
     ensures refusal { IfErr result IsRefusal }
     ensures value { WhereTold (H.holds host.old) (λ held. Gives (λ _. fetched.new) result (take_file held fetched.old (Some line.now))) }
+    ensures given { Answered (λ held. Gives (λ _. fetched.new) result (take_file held fetched.old (Some line.now))) }
     ensures fault { IsErrOf result HostFault → Rose (H.faults host.old line.now.name) (H.faults host.new line.now.name) }
     ensures kept { IsFilled fetched.old → IsFilled fetched.new }
     ensures count { OnOk result (length fetched.new.images ≡ length fetched.old.images) }
@@ -196,6 +111,7 @@ fn take_input<H: Host>(
     ensures goes_on { HostGoesOn H.holds H.faults host.old host.new }
     ensures refusal { IfErr result IsRefusal }
     ensures value { WhereTold (H.holds host.old) (λ held. Gives (λ _. fetched.new) result (take_input held fetched.old (Some line.now))) }
+    ensures given { Answered (λ held. Gives (λ _. fetched.new) result (take_input held fetched.old (Some line.now))) }
     ensures fault { IsErrOf result HostFault → Rose (H.faults host.old line.now.name) (H.faults host.new line.now.name) }
     ensures kept { IsFilled fetched.old → IsFilled fetched.new }
     ensures count { OnOk result (length fetched.new.images ≡ length fetched.old.images) }
@@ -219,6 +135,7 @@ fn take_guest_at<H: Host>(
     ensures goes_on { HostGoesOn H.holds H.faults host.old host.new }
     ensures refusal { IfErr result IsRefusal }
     ensures value { WhereTold (H.holds host.old) (λ held. Gives (λ _. fetched.new) result (take_kind held job.now Guest place fetched.old)) }
+    ensures given { Answered (λ held. Gives (λ _. fetched.new) result (take_kind held job.now Guest place fetched.old)) }
     ensures fault { IsErrOf result HostFault → RoseAmong H.faults host.old host.new (names_of_job job.now) }
     ensures kept { IsFilled fetched.old → IsFilled fetched.new }
     ensures count { OnOk result (length fetched.new.images ≡ length fetched.old.images + images_made Guest) }
@@ -240,6 +157,7 @@ fn take_file_at<H: Host>(
     ensures goes_on { HostGoesOn H.holds H.faults host.old host.new }
     ensures refusal { IfErr result IsRefusal }
     ensures value { WhereTold (H.holds host.old) (λ held. Gives (λ _. fetched.new) result (take_kind held job.now File place fetched.old)) }
+    ensures given { Answered (λ held. Gives (λ _. fetched.new) result (take_kind held job.now File place fetched.old)) }
     ensures fault { IsErrOf result HostFault → RoseAmong H.faults host.old host.new (names_of_job job.now) }
     ensures kept { IsFilled fetched.old → IsFilled fetched.new }
     ensures count { OnOk result (length fetched.new.images ≡ length fetched.old.images + images_made File) }
@@ -261,6 +179,7 @@ fn take_input_at<H: Host>(
     ensures goes_on { HostGoesOn H.holds H.faults host.old host.new }
     ensures refusal { IfErr result IsRefusal }
     ensures value { WhereTold (H.holds host.old) (λ held. Gives (λ _. fetched.new) result (take_kind held job.now Input place fetched.old)) }
+    ensures given { Answered (λ held. Gives (λ _. fetched.new) result (take_kind held job.now Input place fetched.old)) }
     ensures fault { IsErrOf result HostFault → RoseAmong H.faults host.old host.new (names_of_job job.now) }
     ensures kept { IsFilled fetched.old → IsFilled fetched.new }
     ensures count { OnOk result (length fetched.new.images ≡ length fetched.old.images + images_made Input) }
@@ -282,6 +201,7 @@ fn take_source<H: Host>(
     ensures goes_on { HostGoesOn H.holds H.faults host.old host.new }
     ensures refusal { IfErr result IsRefusal }
     ensures value { WhereTold (H.holds host.old) (λ held. Gives (λ _. fetched.new) result (take_source held job.now source.now fetched.old)) }
+    ensures given { Answered (λ held. Gives (λ _. fetched.new) result (take_source held job.now source.now fetched.old)) }
     ensures fault { IsErrOf result HostFault → RoseAmong H.faults host.old host.new (names_of_job job.now) }
     ensures kept { IsFilled fetched.old → IsFilled fetched.new }
     ensures count { OnOk result (length fetched.new.images ≡ length fetched.old.images + images_made source.now.kind) }
@@ -305,6 +225,7 @@ fn take_all<H: Host>(
     ensures goes_on { HostGoesOn H.holds H.faults host.old host.new }
     ensures refusal { IfErr result IsRefusal }
     ensures value { WhereTold (H.holds host.old) (λ held. Gives (λ f. f) result (take_all held job.now all.now nothing_fetched)) }
+    ensures given { (answers : List Answer) × Gives (λ f. f) result (take_given answers job.now all.now nothing_fetched) }
     ensures fault { IsErrOf result HostFault → RoseAmong H.faults host.old host.new (names_of_job job.now) }
     ensures filled { IfOk result IsFilled }
     ensures count { IfOk result (λ f. length f.images ≡ images_in all.now) }
@@ -366,6 +287,7 @@ fn fetch_all<H: Host>(alloc: Global, host: &mut H, job: &Job) -> Result<Fetched,
     ensures goes_on { HostGoesOn H.holds H.faults host.old host.new }
     ensures refusal { IfErr result IsRefusal }
     ensures value { WhereTold (H.holds host.old) (λ held. Gives (λ f. f) result (take_all held job.now (sources_of job.now) nothing_fetched)) }
+    ensures given { (answers : List Answer) × Gives (λ f. f) result (take_given answers job.now (sources_of job.now) nothing_fetched) }
     ensures fault { IsErrOf result HostFault → RoseAmong H.faults host.old host.new (names_of_job job.now) }
     ensures filled { IfOk result IsFilled }
     ensures count { IfOk result (λ f. length f.images ≡ images_in (sources_of job.now)) }
@@ -382,7 +304,9 @@ pub fn gather<H: Host>(alloc: Global, host: &mut H, name: &str) -> Result<Prepar
     ensures goes_on { HostGoesOn H.holds H.faults host.old host.new }
     ensures refusal { IfErr result IsRefusal }
     ensures value { WhereTold (H.holds host.old) (λ held. Gives (λ p. p) result (gathered held name.now)) }
+    ensures given { (answers : List Answer) × Gives (λ p. p) result (gathered_given answers) }
     ensures fault { WhereTold (H.holds host.old) (λ held. IsErrOf result HostFault → RoseAmong H.faults host.old host.new (has_to_fetch held name.now)) }
+    ensures rose { IsErrOf result HostFault → RoseSomewhere H.faults host.old host.new }
     ensures prepared { IfOk result (λ p. IsPrepared p.job p.images) }
 {
     let job = fetch_job(alloc, host, name)?;

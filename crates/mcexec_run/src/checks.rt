@@ -1,6 +1,7 @@
 // Checks of a job.
 ghost use Rattle.job_model.specs.Prepared.{IsPrepared};
 ghost use Rattle.mcexec_run.specs.Chain.{RoseAmong, has_to_fetch, prepared, with_frames};
+ghost use Rattle.mcexec_run.specs.Given.{Given, RoseSomewhere};
 ghost use Rattle.mcexec_run.specs.Outcome.{CheckOutcome, CompletesCheck, PutsText};
 ghost use Rattle.mck_report.specs.declared.status.Status.TheVariants.{Done, HostFault, SinkFault};
 ghost use Rattle.outside.specs.Outside.{HostGoesOn, Rose, WhereTold};
@@ -49,6 +50,22 @@ fn check_into<M: Machine, S: Sink>(alloc: Global, p: &Prepared, sink: &mut S) ->
     }
 }
 
+/// Checks a prepared job, and writes what it needs.
+pub fn check_prepared<M: Machine, S: Sink>(alloc: Global, p: &Prepared, sink: &mut S) -> Ended
+    requires { IsPrepared p.now.job p.now.images }
+    ensures rises { S.faults sink.old ≤ S.faults sink.new }
+    ensures outcome { CheckOutcome (with_frames p.now) result.status result.journal (S.taken sink.old) (S.taken sink.new) }
+    ensures no_host_fault { result.status ≢ HostFault }
+    ensures sink_fault { result.status ≡ SinkFault → Rose (S.faults sink.old) (S.faults sink.new) }
+    ensures complete { CompletesCheck (with_frames p.now) result.status }
+{
+    let status = check_into::<M, S>(alloc, p, sink);
+    Ended {
+        status,
+        journal: Items::new(alloc),
+    }
+}
+
 fn check_job<M: Machine, H: Host, S: Sink>(
     alloc: Global,
     job: &str,
@@ -58,7 +75,9 @@ fn check_job<M: Machine, H: Host, S: Sink>(
     ensures goes_on { HostGoesOn H.holds H.faults host.old host.new }
     ensures rises { S.faults sink.old ≤ S.faults sink.new }
     ensures outcome { WhereTold (H.holds host.old) (λ held. CheckOutcome (prepared held job.now) result [] (S.taken sink.old) (S.taken sink.new)) }
+    ensures given { Given (λ ready. CheckOutcome ready result [] (S.taken sink.old) (S.taken sink.new)) }
     ensures host_fault { WhereTold (H.holds host.old) (λ held. result ≡ HostFault → RoseAmong H.faults host.old host.new (has_to_fetch held job.now)) }
+    ensures rose { result ≡ HostFault → RoseSomewhere H.faults host.old host.new }
     ensures sink_fault { result ≡ SinkFault → Rose (S.faults sink.old) (S.faults sink.new) }
 {
     match gather(alloc, host, job) {
@@ -78,7 +97,9 @@ pub fn check<M: Machine, H: Host, S: Sink>(
     ensures rises { S.faults sink.old ≤ S.faults sink.new }
     ensures outcome { WhereTold (H.holds host.old) (λ held.
         CheckOutcome (prepared held job.now) result.status result.journal (S.taken sink.old) (S.taken sink.new)) }
+    ensures given { Given (λ ready. CheckOutcome ready result.status result.journal (S.taken sink.old) (S.taken sink.new) × CompletesCheck ready result.status) }
     ensures host_fault { WhereTold (H.holds host.old) (λ held. result.status ≡ HostFault → RoseAmong H.faults host.old host.new (has_to_fetch held job.now)) }
+    ensures rose { result.status ≡ HostFault → RoseSomewhere H.faults host.old host.new }
     ensures sink_fault { result.status ≡ SinkFault → Rose (S.faults sink.old) (S.faults sink.new) }
     ensures complete { WhereTold (H.holds host.old) (λ held. CompletesCheck (prepared held job.now) result.status) }
 {

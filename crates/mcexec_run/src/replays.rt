@@ -2,15 +2,17 @@
 ghost use Rattle.hybrid_model.specs.Boot.{shortage};
 ghost use Rattle.job_model.specs.Prepared.{IsPrepared};
 ghost use Rattle.mcexec_run.specs.Chain.{RoseAmong};
+ghost use Rattle.mcexec_run.specs.Given.{Answered, GivenTraced, RoseSomewhere};
 ghost use Rattle.mcexec_run.specs.Outcome.{booted};
-ghost use Rattle.mcexec_run.specs.Replaying.{CompletesReplay, LedTo, ReplayOutcome, Traced, has_to_fetch_both, ran_whole, traced, with_trace};
+ghost use Rattle.mcexec_run.specs.Replaying.{CompletesReplay, LedTo, ReplayOutcome, Traced, has_to_fetch_both, ran_whole, traced, with_given, with_trace};
 ghost use Rattle.mck_report.specs.declared.status.Status.TheVariants.{HostFault, SinkFault};
 ghost use Rattle.outside.specs.Outside.{HostGoesOn, Rose, WhereTold};
 ghost use Rattle.std.specs.Prelude.{◌≡◌, ◌≢◌, ◌≤◌, [], IfSome, None, Ok, is_some};
 
 use crate::calls::Ended;
-use crate::chain::{Prepared, fetch_name, gather};
+use crate::chain::{Prepared, gather};
 use crate::command::Form;
+use crate::fetches::fetch_name;
 use crate::replaying::{Refusal, replay_trace};
 use crate::stages::{Text, boot, show};
 use hybrid_laws::whole::every_legal_journal;
@@ -113,6 +115,7 @@ fn replay_into<M: Machine, H: Host, S: Sink>(
     ensures goes_on { HostGoesOn H.holds H.faults host.old host.new }
     ensures rises { S.faults sink.old ≤ S.faults sink.new }
     ensures outcome { WhereTold (H.holds host.old) (λ held. ReplayOutcome (with_trace held trace.now p.now) result.status journal.new (S.taken sink.old) (S.taken sink.new)) }
+    ensures given { Answered (λ held. ReplayOutcome (with_trace held [] p.now) result.status journal.new (S.taken sink.old) (S.taken sink.new)) }
     ensures hands_out { is_some result.machine ≡ ran_whole result.status }
     ensures machine { IfSome result.machine (λ m. LedTo p.now journal.new (M.pair m)) }
     ensures fault { result.status ≡ SinkFault → Rose (S.faults sink.old) (S.faults sink.new) }
@@ -125,6 +128,51 @@ fn replay_into<M: Machine, H: Host, S: Sink>(
     match fetch_name(alloc, host, trace.as_bytes()) {
         Ok(bytes) => run_trace(alloc, p, machine, &bytes, sink, journal),
         Err(status) => without_machine(status),
+    }
+}
+
+/// A replay of a prepared job with the bytes of its trace, with its journal.
+pub fn replay_bytes<M: Machine, S: Sink>(
+    alloc: Global,
+    p: &Prepared,
+    trace: &[u8],
+    sink: &mut S,
+    journal: &mut Items<Event>,
+) -> Replayed<M>
+    requires prepared { IsPrepared p.now.job p.now.images }
+    requires empty { journal.old ≡ [] }
+    ensures rises { S.faults sink.old ≤ S.faults sink.new }
+    ensures outcome { ReplayOutcome (with_given trace.now p.now) result.status journal.new (S.taken sink.old) (S.taken sink.new) }
+    ensures hands_out { is_some result.machine ≡ ran_whole result.status }
+    ensures machine { IfSome result.machine (λ m. LedTo p.now journal.new (M.pair m)) }
+    ensures fault { result.status ≡ SinkFault → Rose (S.faults sink.old) (S.faults sink.new) }
+    ensures no_fault { result.status ≢ HostFault }
+{
+    match boot(alloc, p) {
+        Ok(machine) => run_trace(alloc, p, machine, trace, sink, journal),
+        Err(status) => without_machine(status),
+    }
+}
+
+/// Runs the trace on the node of a prepared job, and writes the report of its journal, as `replay` does.
+pub fn replay_prepared<M: Machine, S: Sink>(
+    alloc: Global,
+    p: &Prepared,
+    trace: &[u8],
+    sink: &mut S,
+) -> Ended
+    requires { IsPrepared p.now.job p.now.images }
+    ensures rises { S.faults sink.old ≤ S.faults sink.new }
+    ensures outcome { ReplayOutcome (with_given trace.now p.now) result.status result.journal (S.taken sink.old) (S.taken sink.new) }
+    ensures no_host_fault { result.status ≢ HostFault }
+    ensures sink_fault { result.status ≡ SinkFault → Rose (S.faults sink.old) (S.faults sink.new) }
+    ensures complete { CompletesReplay (with_given trace.now p.now) result.status result.journal }
+{
+    let mut journal = Items::new(alloc);
+    let replayed: Replayed<M> = replay_bytes(alloc, p, trace, sink, &mut journal);
+    Ended {
+        status: replayed.status,
+        journal,
     }
 }
 
@@ -142,8 +190,12 @@ pub fn replay_job<M: Machine, H: Host, S: Sink>(
     ensures rises { S.faults sink.old ≤ S.faults sink.new }
     ensures outcome { WhereTold (H.holds host.old) (λ held. ReplayOutcome (traced held job.now trace.now) result.status journal.new (S.taken sink.old) (S.taken sink.new)) }
     ensures hands_out { is_some result.machine ≡ ran_whole result.status }
+    ensures given { GivenTraced (λ ready.
+        ReplayOutcome ready result.status journal.new (S.taken sink.old) (S.taken sink.new)
+        × ((t : Traced) → ready ≡ Ok t → IfSome result.machine (λ m. LedTo t.start journal.new (M.pair m)))) }
     ensures machine { WhereTold (H.holds host.old) (λ held. (t : Traced) → traced held job.now trace.now ≡ Ok t → IfSome result.machine (λ m. LedTo t.start journal.new (M.pair m))) }
     ensures host_fault { WhereTold (H.holds host.old) (λ held. result.status ≡ HostFault → RoseAmong H.faults host.old host.new (has_to_fetch_both held job.now trace.now)) }
+    ensures rose { result.status ≡ HostFault → RoseSomewhere H.faults host.old host.new }
     ensures sink_fault { result.status ≡ SinkFault → Rose (S.faults sink.old) (S.faults sink.new) }
 {
     match gather(alloc, host, job) {
@@ -168,7 +220,10 @@ pub fn replay<M: Machine, H: Host, S: Sink>(
     ensures rises { S.faults sink.old ≤ S.faults sink.new }
     ensures outcome { WhereTold (H.holds host.old) (λ held.
         ReplayOutcome (traced held job.now trace.now) result.status result.journal (S.taken sink.old) (S.taken sink.new)) }
+    ensures given { GivenTraced (λ ready.
+        ReplayOutcome ready result.status result.journal (S.taken sink.old) (S.taken sink.new) × CompletesReplay ready result.status result.journal) }
     ensures host_fault { WhereTold (H.holds host.old) (λ held. result.status ≡ HostFault → RoseAmong H.faults host.old host.new (has_to_fetch_both held job.now trace.now)) }
+    ensures rose { result.status ≡ HostFault → RoseSomewhere H.faults host.old host.new }
     ensures sink_fault { result.status ≡ SinkFault → Rose (S.faults sink.old) (S.faults sink.new) }
     ensures complete { WhereTold (H.holds host.old) (λ held. CompletesReplay (traced held job.now trace.now) result.status result.journal) }
 {

@@ -1,6 +1,7 @@
 // Walks of a job, and of the job that grows.
 ghost use Rattle.job_model.specs.Prepared.{IsPrepared};
 ghost use Rattle.mcexec_run.specs.Chain.{RoseAmong, has_to_fetch, prepared, with_frames};
+ghost use Rattle.mcexec_run.specs.Given.{Given, RoseSomewhere};
 ghost use Rattle.mcexec_run.specs.Growing.{GrowOutcome, grow_text, grown};
 ghost use Rattle.mcexec_run.specs.Outcome.{Completes, WalkOutcome, text_at};
 ghost use Rattle.mcexec_run.specs.Writing.{text_of_kind};
@@ -12,10 +13,10 @@ use crate::calls::Ended;
 use crate::chain::{Prepared, gather};
 use crate::command::Form;
 use crate::stages::{Text, boot, show};
-use crate::walking::walk_journal;
 use guest_asm::grow_job;
 use hybrid_laws::whole::every_legal_journal;
 use hybrid_model::Event;
+use ihk_parts::walk_journal;
 use mck_report::Status;
 use mck_word::{Items, NoMemory};
 use node_machine::Machine;
@@ -51,6 +52,27 @@ fn walk_into<M: Machine, S: Sink>(
     }
 }
 
+/// Walks a prepared job in that order, and writes the report or the trace. Of the journal that it keeps the main theorem holds, as `walk`
+/// says.
+pub fn walk_prepared<M: Machine, S: Sink>(
+    alloc: Global,
+    p: &Prepared,
+    order: u64,
+    form: Form,
+    sink: &mut S,
+) -> Ended
+    requires { IsPrepared p.now.job p.now.images }
+    ensures rises { S.faults sink.old ≤ S.faults sink.new }
+    ensures outcome { WalkOutcome (with_frames p.now) order (text_at form) result.status result.journal (S.taken sink.old) (S.taken sink.new) }
+    ensures no_host_fault { result.status ≢ HostFault }
+    ensures sink_fault { result.status ≡ SinkFault → Rose (S.faults sink.old) (S.faults sink.new) }
+    ensures complete { Completes (with_frames p.now) order (text_at form) result.status result.journal }
+{
+    let mut journal = Items::new(alloc);
+    let status = walk_into::<M, S>(alloc, p, order, Text::Of(form), sink, &mut journal);
+    Ended { status, journal }
+}
+
 fn walk_job<M: Machine, H: Host, S: Sink>(
     alloc: Global,
     job: &str,
@@ -64,7 +86,9 @@ fn walk_job<M: Machine, H: Host, S: Sink>(
     ensures goes_on { HostGoesOn H.holds H.faults host.old host.new }
     ensures rises { S.faults sink.old ≤ S.faults sink.new }
     ensures outcome { WhereTold (H.holds host.old) (λ held. WalkOutcome (prepared held job.now) order (text_at form) result journal.new (S.taken sink.old) (S.taken sink.new)) }
+    ensures given { Given (λ ready. WalkOutcome ready order (text_at form) result journal.new (S.taken sink.old) (S.taken sink.new)) }
     ensures host_fault { WhereTold (H.holds host.old) (λ held. result ≡ HostFault → RoseAmong H.faults host.old host.new (has_to_fetch held job.now)) }
+    ensures rose { result ≡ HostFault → RoseSomewhere H.faults host.old host.new }
     ensures sink_fault { result ≡ SinkFault → Rose (S.faults sink.old) (S.faults sink.new) }
 {
     match gather(alloc, host, job) {
@@ -94,7 +118,10 @@ pub fn walk<M: Machine, H: Host, S: Sink>(
     ensures rises { S.faults sink.old ≤ S.faults sink.new }
     ensures outcome { WhereTold (H.holds host.old) (λ held.
         WalkOutcome (prepared held job.now) order (text_at form) result.status result.journal (S.taken sink.old) (S.taken sink.new)) }
+    ensures given { Given (λ ready.
+        WalkOutcome ready order (text_at form) result.status result.journal (S.taken sink.old) (S.taken sink.new) × Completes ready order (text_at form) result.status result.journal) }
     ensures host_fault { WhereTold (H.holds host.old) (λ held. result.status ≡ HostFault → RoseAmong H.faults host.old host.new (has_to_fetch held job.now)) }
+    ensures rose { result.status ≡ HostFault → RoseSomewhere H.faults host.old host.new }
     ensures sink_fault { result.status ≡ SinkFault → Rose (S.faults sink.old) (S.faults sink.new) }
     ensures complete { WhereTold (H.holds host.old) (λ held. Completes (prepared held job.now) order (text_at form) result.status result.journal) }
 {

@@ -10,7 +10,7 @@ use Rattle.job_text.specs.declared.fault.Key.TheVariants as keys
 use Rattle.job_text.specs.declared.fault.Why.{Why}
 use Rattle.job_text.specs.declared.fault.Why.TheVariants as whys
 use Rattle.mck_report.specs.declared.status.Status.{Status}
-use Rattle.mck_report.specs.declared.status.Status.TheVariants.{Done, Stalled, BadWords, BadJob, BadElf, NoFrames, Limit, HostFault, SinkFault, NoMemory, BadTrace, Unfinished, LongFile, NotBuilt}
+use Rattle.mck_report.specs.declared.status.Status.TheVariants.{Done, Stalled, BadWords, BadJob, BadElf, NoFrames, Limit, HostFault, SinkFault, NoMemory, BadTrace, Unfinished, LongFile}
 use Rattle.run_model.specs.Texts.{Word, Text, Number, Line, part_bytes}
 use Rattle.std.specs.Prelude.{ℕ, List, [], ◌∷◌, codes, Option, Some, None}
 
@@ -28,7 +28,6 @@ number_of NoMemory = 9
 number_of (BadTrace line) = 10
 number_of Unfinished = 11
 number_of (LongFile line) = 12
-number_of NotBuilt = 13
 
 -- the status of a run that ended so, with all of its text written
 abbrev pub status_of : Ending → Status
@@ -88,7 +87,6 @@ status_words NoMemory = Some (Text (codes "no") ∷ Text (codes "memory") ∷ []
 status_words (BadTrace line) = Some (Text (codes "trace") ∷ Text (codes "line") ∷ Number line ∷ [])
 status_words Unfinished = None
 status_words (LongFile line) = Some (Text (codes "file") ∷ Text (codes "line") ∷ Number line ∷ Text (codes "too") ∷ Text (codes "long") ∷ [])
-status_words NotBuilt = Some (Text (codes "not") ∷ Text (codes "built") ∷ [])
 
 abbrev pub line_or_nothing : Option (List Word) → List ℕ
 line_or_nothing None = []

@@ -30,8 +30,6 @@ pub enum Status {
     Unfinished,
     /// The file of that line of the job is too long.
     LongFile(u64),
-    /// What was asked for is not built yet.
-    NotBuilt,
 }
 
 impl From<NoMemory> for Status {
@@ -77,6 +75,5 @@ pub fn status_number(status: &Status) -> u8
         Status::BadTrace(_) => 10,
         Status::Unfinished => 11,
         Status::LongFile(_) => 12,
-        Status::NotBuilt => 13,
     }
 }

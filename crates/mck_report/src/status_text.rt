@@ -151,7 +151,6 @@ fn add_status(text: &mut Bytes, status: &Status) -> Result<(), NoMemory>
             add_message(text, &[Token::Text(b"trace"), Token::Text(b"line"), line])
         }
         Status::LongFile(line) => add_long(text, line),
-        Status::NotBuilt => add_message(text, &[Token::Text(b"not"), Token::Text(b"built")]),
     }
 }
 

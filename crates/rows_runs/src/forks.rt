@@ -12,7 +12,7 @@ fn fork_and_wait(rt: HostRuntime) -> Result<(), Fail> {
     let job = b"frames 36\nguest image\n";
     let mut host = host_of(alloc, &[("job", job), ("image", &FORK_AND_WAIT)], &[])?;
     let mut sink = sink_of(alloc, 4096, 4096)?;
-    let ended = call(alloc, &["walk", "job"], &mut host, &mut sink)?;
+    let ended = call(&rt, alloc, &["walk", "job"], &mut host, &mut sink)?;
     assert_eq!(rt; ended.status, Status::Done);
     let report =
         b"mcreport 1\nend done\nguest 1 exit 0\nguest 17 exit 5\noutput 1 0\n\ncount instructions 31\ncount requests 0\ncount faults 0\ncount rounds 0\ncount free 36\n";
@@ -41,7 +41,7 @@ fn a_fork_without_frames_is_refused(rt: HostRuntime) -> Result<(), Fail> {
     let job = b"frames 35\nguest image\n";
     let mut host = host_of(alloc, &[("job", job), ("image", &FORK_AND_WAIT)], &[])?;
     let mut sink = sink_of(alloc, 4096, 4096)?;
-    let ended = call(alloc, &["walk", "job"], &mut host, &mut sink)?;
+    let ended = call(&rt, alloc, &["walk", "job"], &mut host, &mut sink)?;
     assert_eq!(rt; ended.status, Status::Done);
     let report =
         b"mcreport 1\nend done\nguest 1 exit 1\noutput 1 0\n\ncount instructions 13\ncount requests 0\ncount faults 0\ncount rounds 0\ncount free 35\n";

@@ -14,4 +14,6 @@ mod outside_faults;
 #[cfg(test)]
 mod runs;
 #[cfg(test)]
+mod threads;
+#[cfg(test)]
 mod walks;

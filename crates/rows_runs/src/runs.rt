@@ -2,13 +2,16 @@
 ghost use Rattle.std.specs.Prelude.{◌<◌};
 
 use mcexec_run::{Ended, mcexec};
+use mck_crew::OpenGate;
 use one_files::RowFiles;
 use one_kernel::One;
 use outside::{MemHost, MemSink, Named};
 use page_map::PageMap;
 use pair_node::Pair;
 use std::alloc::Global;
+use std::sync::Wait;
 use std::test::Fail;
+use std::thread::Threads;
 
 /// The machine of the rows: the plain page table and the plain store of files.
 pub type Node = Pair<PageMap, RowFiles>;
@@ -34,7 +37,8 @@ pub fn sink_of(alloc: Global, room: usize, most: usize) -> Result<MemSink, Fail>
 }
 
 /// The call of the program with these words.
-pub fn call(
+pub fn call<R: Threads + Wait + Sync>(
+    rt: &R,
     alloc: Global,
     words: &[&str],
     host: &mut MemHost,
@@ -44,7 +48,9 @@ pub fn call(
     for word in words {
         owned.push(String::from_str(alloc, word)?)?;
     }
-    let audited = mcexec::<Node, One, MemHost, MemSink>(alloc, &owned, host, sink);
+    let audited = mcexec::<Node, One, OpenGate, R, MemHost, MemSink>(
+        rt, &OpenGate, alloc, &owned, host, sink,
+    );
     Ok(Ended {
         status: audited.status,
         journal: audited.journal,

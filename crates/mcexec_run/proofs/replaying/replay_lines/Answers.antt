@@ -1,6 +1,6 @@
 use Rattle.hybrid_model.specs.Events.{after, may}
 use Rattle.mcexec_run.proofs.TraceLines.{line_more, no_event, rest_shorter}
-use Rattle.mcexec_run.proofs.Walked.{legal_on, state_on}
+use Rattle.ihk_parts.proofs.Walked.{legal_on, state_on}
 use Rattle.mcexec_run.proofs.replaying.replay_lines.Goals as goal
 use Rattle.mck_report.proofs.Journals.{all_more, not_nothing}
 use Rattle.mck_report.specs.Reading.{IsEntry}

@@ -3,7 +3,7 @@ use Rattle.mcexec_run.proofs.walks.walk_into.Goals as goal
 use Rattle.mcexec_run.specs.Chain.{with_frames}
 use Rattle.mcexec_run.specs.Outcome.{LeavesWalk, NoLine, ShowsWalk}
 use Rattle.mcexec_run.specs.Writing.{text_of_kind}
-use Rattle.mcexec_run.specs.Walking.{LeavesLess}
+use Rattle.ihk_parts.specs.Walking.{LeavesLess}
 use Rattle.std.proofs.Common.{refl, subst, sym}
 
 pub returns-in-Err-clause-outcome : goal.returns-in-Err-clause-outcome
