@@ -30,6 +30,7 @@ for job in *.job; do
     [ -f "$name.report" ] || continue
     writes "$name.report" walk "$job"
     writes "$name.report" walk "$job" 7
+    writes "$name.report" run "$job"
 done
 writes hello.check check hello.job
 writes hello.trace walk hello.job trace

@@ -104,11 +104,12 @@ def audits_of_walks():
 def others(row):
     yield "check", differs(row.run("check", "job"), 0, CHECKED.encode())
     yield "check of an absent job", differs(row.run("check", "absent"), 7, b"", "mcexec: host fault")
+    yield "walk of an endless device", differs(row.run("walk", "/dev/zero"), 7, b"", "mcexec: host fault")
     for n in (1, 2, 16):
         grown = GROWN.format(n, 1004 * n, 50 * n, 150 * n, 22 * n)
         yield f"grow {n}", differs(row.run("grow", str(n)), 0, grown.encode())
     yield "grow 3 in order 5", differs(row.run("grow", "3", "5"), 0, GROWN.format(3, 3012, 150, 450, 66).encode())
-    for words in ((), ("walk",), ("grow", "0"), ("grow", "17"), ("grow", "01"), ("replay", "job"), ("walk", "job", "x")):
+    for words in ((), ("walk",), ("grow", "0"), ("grow", "17"), ("grow", "01"), ("replay", "job"), ("walk", "job", "x"), ("run", "job", "7")):
         yield f"words {' '.join(words)!r}", differs(row.run(*words), 2, b"", "mcexec: words")
 
 
