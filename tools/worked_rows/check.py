@@ -20,7 +20,8 @@ from rows import ROWS, WRONG  # noqa: E402
 TOP = HERE.parent.parent
 LAWS = ("MapLaws", "EachLaws", "Slots")
 CONTAINERS = "ikc_ring page_pins clear_rounds request_book".split()
-CRATES = ["mck_word", "mck_flags", "job_model", "isa_model", "file_model", "kernel_model", *CONTAINERS, "hybrid_model", "run_model"]
+BELOW = "mck_word mck_flags job_model system_calls isa_model file_model kernel_model".split()
+CRATES = [*BELOW, *CONTAINERS, "hybrid_model", "run_model"]
 HEAD = """use Rattle.hybrid_model.specs.Boot.{boot, shortage}
 use Rattle.hybrid_model.specs.Events.{may, after}
 use Rattle.hybrid_model.specs.Journals.{may_all, state, ending}
@@ -51,7 +52,7 @@ use Rattle.worked_rows.specs.Checks.{additions, first_wrong, only_additions, sta
 use Rattle.worked_rows.specs.Images.{small_image, small_job}
 
 """
-BOOK_USES = """use Rattle.ikc_ring.specs.declared.Call.{Call}
+BOOK_USES = """use Rattle.ikc_ring.specs.declared.CallRequest.{CallRequest}
 use Rattle.mck_word.specs.Maps.{Map}
 use Rattle.request_book.specs.declared.ReqState.{ReqState}
 use Rattle.std.specs.Prelude.{List, ℕ}
@@ -76,7 +77,7 @@ def plain_types(source):
     types = re.findall(r"(#\[derive\([^\]]*\bCopy\b[^\]]*\)\]\npub (?:enum|struct) \w+ \{\n.*?\n\}\n)", source, re.S)
     used = set(re.findall(r"\w+", "".join(types)))
     uses = []
-    for crate, names in re.findall(r"^use (mck_\w+)::\{?([^;{}]*)\}?;$", source, re.M):
+    for crate, names in re.findall(r"^use (mck_\w+|system_calls)::\{?([^;{}]*)\}?;$", source, re.M):
         wanted = [name for name in map(str.strip, names.split(",")) if name in used]
         if wanted:
             uses.append(f"use {crate}::{{{', '.join(wanted)}}};\n")
@@ -99,11 +100,11 @@ def make_workspace(top):
         (top / "crates" / crate / "specs" / "Lib.antt").write_text("")
     book = re.search(r"pub record Requests .*?\n\n", (TOP / "crates/request_book/specs/Requests.antt").read_text(), re.S).group(0)
     specs = top / "crates" / "request_book" / "specs"
-    (specs / "Requests.antt").write_text(BOOK_USES + book.replace("Live", "Map (ReqState × Call)"))
+    (specs / "Requests.antt").write_text(BOOK_USES + book.replace("Live", "Map (ReqState × CallRequest)"))
     (specs / "Lib.antt").write_text("pub mod Requests\n")
     wanted = set(CRATES)
     lines = [l for l in (TOP / "crates.txt").read_text().splitlines() if l.split(":")[0] in wanted and l.split(":")[0] not in CONTAINERS]
-    lines += [f"{c}: mck_word mck_flags" + (" ikc_ring" if c == "request_book" else "") for c in CONTAINERS]
+    lines += [f"{c}: mck_word mck_flags system_calls" + (" ikc_ring" if c == "request_book" else "") for c in CONTAINERS]
     lines.append("worked_rows: " + " ".join(CRATES))
     (top / "crates.txt").write_text("\n".join(lines) + "\n")
     shutil.copy(TOP / "HANDLES", top / "HANDLES")

@@ -1,8 +1,8 @@
 -- What a phase's kind says of the phases.
-use Rattle.call_plan.specs.Stages.{kind_of, moved_past}
-use Rattle.call_plan.specs.StreamBytes.{most_left}
-use Rattle.call_plan.specs.declared.phases.Kind.TheVariants as kind
-use Rattle.kernel_model.specs.Plans.{Phase, Gather, Act, Scatter, Stream, most_moved}
+use Rattle.call_phases.specs.Stages.{kind_of, moved_past}
+use Rattle.call_phases.specs.StreamBytes.{most_left}
+use Rattle.call_phases.specs.declared.phases.Kind.TheVariants as kind
+use Rattle.kernel_model.specs.CallPhases.{Phase, Gather, Act, Scatter, Stream, most_moved}
 use Rattle.kernel_model.specs.Progress.{advanced, ranges_of, without_empty}
 use Rattle.mck_word.specs.Lists.{tail}
 use Rattle.std.proofs.Common.{◌≡◌, ◌≤◌, ℕ, List, [], ◌∷◌, arith, get_or, refl}

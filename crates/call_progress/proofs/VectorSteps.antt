@@ -1,9 +1,9 @@
 -- The step behind the last piece of the vectors.
-use Rattle.call_plan.specs.Ranges.{is_too_long}
-use Rattle.call_plan.specs.Stages.{vector_stream}
+use Rattle.call_phases.specs.Ranges.{is_too_long}
+use Rattle.call_phases.specs.Stages.{vector_stream}
 use Rattle.file_model.specs.Errno.{EINVAL}
 use Rattle.file_model.specs.Files.{Files}
-use Rattle.kernel_model.specs.Plans.{Phase}
+use Rattle.kernel_model.specs.CallPhases.{Phase}
 use Rattle.kernel_model.specs.declared.ranges.Range.{Range}
 use Rattle.kernel_model.specs.Progress.{Progress, ends, gather_vectors, settle, vectors}
 use Rattle.mck_word.specs.Words.{refused}

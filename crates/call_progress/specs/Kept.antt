@@ -1,10 +1,10 @@
 -- What a contract sees of a call's progress.
-use Rattle.call_plan.specs.StreamBytes.{most_left}
+use Rattle.call_phases.specs.StreamBytes.{most_left}
 use Rattle.file_model.specs.Files.{Files}
 use Rattle.file_model.specs.Operations.{FileResult}
 use Rattle.file_model.specs.declared.operations.FileOp.{FileOp}
 use Rattle.file_model.specs.declared.operations.FileOp.TheVariants.{Pipe2, Fstat, Getdents, Get, Put, Leave}
-use Rattle.kernel_model.specs.Plans.{Phase, most_moved}
+use Rattle.kernel_model.specs.CallPhases.{Phase, most_moved}
 use Rattle.kernel_model.specs.Progress.{After, Moved, Progress}
 use Rattle.std.specs.Prelude.{◌≡◌, ◌≤◌, ◌+◌, ◌≤ℤ◌, pos, ℕ, ℤ, List, Option, length, min}
 

@@ -10,7 +10,7 @@ use Rattle.file_model.specs.declared.operations.FileOp.{FileOp}
 use Rattle.file_model.specs.declared.operations.FileOp.TheVariants.{Get, Put}
 use Rattle.file_model.specs.declared.operations.Readiness.TheVariants.{FileStep}
 use Rattle.file_model.specs.declared.descriptions.Target.{Target}
-use Rattle.kernel_model.specs.Plans.{Phase, Gather, Act, Scatter, Stream, act_of}
+use Rattle.kernel_model.specs.CallPhases.{Phase, Gather, Act, Scatter, Stream, act_of}
 use Rattle.kernel_model.specs.Progress.{nat_of, next_piece, stream_operation}
 use Rattle.std.specs.Prelude.{◌≡◌, ◌≤◌, ◌⊎◌, ℕ, List, get_or, length}
 
@@ -39,7 +39,7 @@ pub record HasMoved (r : FileResult) (count : ℕ) (before after : List ℕ) (le
 -- what the file step of a phase needs, so that it takes no memory
 abbrev pub HasStepRoom : Room → (Target → ℕ → Type 0) → Files → Kept → Phase → Type 0
 HasStepRoom room can_write files k (Gather rs) = Unit {0}
-HasStepRoom room can_write files k Act = let op = act_of k.progress.number k.progress.arguments in HasRoom room can_write files op × HasOut op k.out
+HasStepRoom room can_write files k Act = let op = act_of k.progress.call k.progress.arguments in HasRoom room can_write files op × HasOut op k.out
 HasStepRoom room can_write files k (Scatter rs) = Unit {0}
 HasStepRoom room can_write files k (Stream rs) = HasRoom room can_write files (stream_operation k.progress)
 

@@ -6,13 +6,12 @@ ghost use Rattle.file_calls.specs.Placed.{len_said};
 ghost use Rattle.file_calls.specs.Pieces.{HasRoom};
 ghost use Rattle.file_model.specs.FileSteps as steps;
 ghost use Rattle.file_model.specs.declared.operations.FileAns.{FileAns as answer};
-ghost use Rattle.kernel_model.specs.Plans as plans;
-ghost use Rattle.kernel_model.specs.Plans.{act_of};
+ghost use Rattle.kernel_model.specs.CallPhases.{act_of};
 ghost use Rattle.kernel_model.specs.Progress.{acted, settle, with_scatter};
 ghost use Rattle.mck_word.specs.Lists.{tail};
+ghost use Rattle.system_calls.specs.FileCalls as calls;
 
 use crate::progress::Progress;
-use call_plan::numbers::{is_read, is_write};
 use file_calls::descriptors::{read, write};
 use file_calls::open::openat;
 use file_calls::steps::file_step;
@@ -35,7 +34,8 @@ fn given(op: &FileOp, value: i64) -> u64
     }
 }
 
-/// Makes the file step of an act that gives bytes out or has no path and no stream, and leaves the bytes that it gave out.
+/// Makes the file step of an act that gives bytes out or has no path and no stream, and leaves the bytes that it gave
+/// out.
 fn plain_act<S: FileStore>(files: &mut S, pid: Pid, op: &FileOp, out: &mut Vec<u8>) -> i64
     requires act { IsAct op.now }
     requires room { HasRoom (S.room files.old) (S.can_write files.old) (S.files files.old) op.now }
@@ -80,9 +80,9 @@ impl Progress {
 
     /// Whether the call reads or writes a stream.
     fn has_stream(&self) -> bool
-        ensures { result ≡ (plans.is_read self.now.progress.number || plans.is_write self.now.progress.number) }
+        ensures { result ≡ (calls.is_read self.now.progress.call || calls.is_write self.now.progress.call) }
     {
-        is_read(self.number) || is_write(self.number)
+        self.call.is_read() || self.call.is_write()
     }
 
     /// Goes on after an act that found a description.
@@ -110,12 +110,12 @@ impl Progress {
 
     /// Makes the act of the call, which is its first phase.
     pub(crate) fn act<S: FileStore>(&mut self, files: &mut S, pid: Pid) -> Option<i64>
-        requires room { HasRoom (S.room files.old) (S.can_write files.old) (S.files files.old) (act_of self.old.progress.number self.old.progress.arguments) }
+        requires room { HasRoom (S.room files.old) (S.can_write files.old) (S.files files.old) (act_of self.old.progress.call self.old.progress.arguments) }
         requires few { FewCalls (S.files files.old) }
-        requires out { HasOut (act_of self.old.progress.number self.old.progress.arguments) self.old.out }
-        ensures { after self.new.progress result (S.files files.new) ≡ acted self.old.progress (steps.file_step (S.files files.old) pid.0 (act_of self.old.progress.number self.old.progress.arguments) self.old.progress.buffer) }
+        requires out { HasOut (act_of self.old.progress.call self.old.progress.arguments) self.old.out }
+        ensures { after self.new.progress result (S.files files.new) ≡ acted self.old.progress (steps.file_step (S.files files.old) pid.0 (act_of self.old.progress.call self.old.progress.arguments) self.old.progress.buffer) }
     {
-        let op = call_plan::act_of(self.number, &self.arguments);
+        let op = call_phases::act_of(self.call, &self.arguments);
         let value = self.make_act(files, pid, &op);
         if value < 0 {
             return Some(value);

@@ -4,7 +4,6 @@ ghost use Rattle.call_progress.specs.Kept.{after};
 ghost use Rattle.kernel_model.specs.Progress.{answer_of, ends, settle};
 
 use crate::progress::Progress;
-use call_plan::numbers::{is_read, is_write};
 use file_calls::store::FileStore;
 
 impl Progress {
@@ -12,7 +11,7 @@ impl Progress {
     fn answer(&self) -> i64
         ensures { result ≡ answer_of self.now.progress }
     {
-        if is_read(self.number) || is_write(self.number) {
+        if self.call.is_read() || self.call.is_write() {
             i64::from(self.moved)
         } else {
             self.answer

@@ -1,7 +1,7 @@
 // The pieces that go into a page, and the piece of each phase.
 ghost use Rattle.std.specs.Prelude.{◌≡◌, ◌≤◌, ◌<◌, ◌+◌, ◌^◌, IfSome, Some, drop, length, slice_get, take};
-ghost use Rattle.call_plan.specs.Stages.{kind_of, moved_past};
-ghost use Rattle.call_plan.specs.declared.phases.Kind.{Kind as kind};
+ghost use Rattle.call_phases.specs.Stages.{kind_of, moved_past};
+ghost use Rattle.call_phases.specs.declared.phases.Kind.{Kind as kind};
 ghost use Rattle.call_progress.specs.Kept.{after, moved};
 ghost use Rattle.kernel_model.specs.Progress.{next_piece, ranges_left, scattered, settle};
 ghost use Rattle.mck_word.specs.Lists.{spliced};

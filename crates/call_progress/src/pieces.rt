@@ -1,18 +1,18 @@
 // The pieces of a call, between the bytes of a page and its buffer or a file.
 ghost use Rattle.std.specs.Prelude.{◌≡◌, ◌≤◌, ◌<◌, ◌+◌, ◌-◌, ◌^◌, ◌++◌, IfSome, Some, [], length, slice_get, take, drop, vec_len};
-ghost use Rattle.call_plan.specs.Stages.{kind_of};
-ghost use Rattle.call_plan.specs.StreamBytes.{most_left};
-ghost use Rattle.call_plan.specs.declared.phases.Kind.{Kind as kind};
+ghost use Rattle.call_phases.specs.Stages.{kind_of};
+ghost use Rattle.call_phases.specs.StreamBytes.{most_left};
+ghost use Rattle.call_phases.specs.declared.phases.Kind.{Kind as kind};
 ghost use Rattle.std.specs.Vec.{vec_capacity};
 ghost use Rattle.call_progress.specs.Kept.{after};
-ghost use Rattle.kernel_model.specs.Plans.{most_moved};
+ghost use Rattle.kernel_model.specs.CallPhases.{most_moved};
 ghost use Rattle.kernel_model.specs.Progress.{advanced, gather_path, gather_vectors, gathered, next_piece, ranges_left, settle, stays};
 ghost use Rattle.mck_word.specs.Lists.{before_zero, spliced, tail};
 
 use crate::progress::Progress;
-use call_plan::Phases;
-use call_plan::numbers::has_path;
+use call_phases::Phases;
 use file_calls::store::FileStore;
+use system_calls::errors::{EINVAL, ENAMETOOLONG};
 
 /// Adds bytes for which there is room.
 fn append(v: &mut Vec<u8>, bytes: &[u8])
@@ -79,7 +79,7 @@ impl Progress {
             return self.take_path(files, len);
         }
         if self.phases.is_last(n) {
-            return self.end(files, -36);
+            return self.end(files, ENAMETOOLONG);
         }
         self.phases.advance(n);
         None
@@ -97,7 +97,7 @@ impl Progress {
             return None;
         }
         match Phases::over_vectors(self.buffer.split_at(self.from).1) {
-            None => self.end(files, -22),
+            None => self.end(files, EINVAL),
             Some(phases) => self.take_vectors(files, phases),
         }
     }
@@ -113,7 +113,7 @@ impl Progress {
         let piece = self.next_piece();
         let (_, rest) = page.split_at(piece.off as usize);
         append(&mut self.buffer, rest.split_at(piece.len as usize).0);
-        if has_path(self.number) {
+        if self.call.has_path() {
             self.gather_path(files, u64::from(piece.len))
         } else {
             self.gather_vectors(files, u64::from(piece.len))

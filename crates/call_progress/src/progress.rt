@@ -1,27 +1,26 @@
 // The progress of a call.
 ghost use Rattle.std.specs.Prelude.{◌≡◌, ◌≤◌};
-ghost use Rattle.call_plan.specs.Planned.{MovesFew, phases_in, planned};
-ghost use Rattle.call_plan.specs.StreamBytes.{most_left};
-ghost use Rattle.kernel_model.specs.Plans as plans;
-ghost use Rattle.kernel_model.specs.Plans.{most_moved};
+ghost use Rattle.call_phases.specs.StreamBytes.{most_left};
+ghost use Rattle.kernel_model.specs.CallPhases.{most_moved, phases_of};
 ghost use Rattle.kernel_model.specs.Progress as calls;
 ghost use Rattle.kernel_model.specs.Progress.{given_back, interrupted_answer, needed_access, offset_argument, starting, stream_operation};
 ghost use Rattle.kernel_model.specs.Pages.{first_piece};
 
-use call_plan::numbers::{PREAD64, PWRITE64, is_read};
-use call_plan::{Kind, Phases, Plan, Range, Stages, plan};
+use call_phases::{Kind, Phases, Range, phases_of};
 use file_calls::steps::ready;
 use file_calls::store::FileStore;
 use file_model::{FileOp, Readiness};
 use mck_word::{Access, Piece};
 use std::alloc::Global;
 use std::marker::Model;
+use system_calls::FileCall;
+use system_calls::errors::{EFAULT, EINTR};
 
-/// How far a call has come: its phases left, the bytes gathered or still to be scattered, the bytes that its stream moved, what its
-/// act answered, and the description that it holds.
+/// How far a call has come: its phases left, the bytes gathered or still to be scattered, the bytes that its stream
+/// moved, what its act answered, and the description that it holds.
 #[derive(Drop)]
 pub struct Progress {
-    pub(crate) number: u64,
+    pub(crate) call: FileCall,
     pub(crate) arguments: [u64; 6],
     pub(crate) phases: Phases,
     pub(crate) buffer: Vec<u8>,
@@ -40,24 +39,12 @@ impl Model for Progress {
     ghost Value = { Kept };
 
     ghost view = { λ p. record {
-      progress = record { number = p.number; arguments = p.arguments; phases = p.phases; buffer = drop p.from p.buffer.items; moved = p.moved; answer = p.answer; found = p.found };
+      progress = record { call = p.call; arguments = p.arguments; phases = p.phases; buffer = drop p.from p.buffer.items; moved = p.moved; answer = p.answer; found = p.found };
       spare = vec_capacity p.buffer - vec_len p.buffer;
       out = p.out.items;
     } };
 
     ghost invariant = { λ p. IsWithin p.from (vec_len p.buffer) p.moved p.phases };
-}
-
-/// The phases of a plan.
-fn phases_of(plan: Plan) -> Phases
-    requires { MovesFew plan }
-    ensures is { result ≡ phases_in (planned plan) }
-    ensures few { most_left result ≤ most_moved }
-{
-    match plan {
-        Plan::Delegated(phases) => phases,
-        _ => Phases::without_ranges(Stages::Over),
-    }
 }
 
 /// The first piece of a range.
@@ -73,21 +60,21 @@ fn piece_of(range: Range) -> Piece
 }
 
 impl Progress {
-    /// The beginning of a call, with the phases of its plan; a call that is not delegated has none. Takes no memory.
-    pub fn of_call(alloc: Global, number: u64, arguments: &[u64; 6]) -> Progress
-        ensures { result.progress ≡ starting number arguments.now (phases_in (plans.plan number arguments.now)) }
+    /// The beginning of a call, with all its phases. Takes no memory.
+    pub fn of_call(alloc: Global, call: FileCall, arguments: &[u64; 6]) -> Progress
+        ensures { result.progress ≡ starting call arguments.now (phases_of call arguments.now) }
     {
-        Progress::starting(alloc, number, arguments, phases_of(plan(number, arguments)))
+        Progress::starting(alloc, call, arguments, phases_of(call, arguments))
     }
 
-    /// The beginning of a call, with all its phases, whose streams have no more bytes than a call may move: so a plan says of its
-    /// phases. Takes no memory.
-    pub fn starting(alloc: Global, number: u64, arguments: &[u64; 6], phases: Phases) -> Progress
+    /// The beginning of a call, with all its phases, whose streams have no more bytes than a call may move: so
+    /// `phases_of` says of a call's phases. Takes no memory.
+    pub fn starting(alloc: Global, call: FileCall, arguments: &[u64; 6], phases: Phases) -> Progress
         requires { most_left phases ≤ most_moved }
-        ensures { result.progress ≡ starting number arguments.now phases }
+        ensures { result.progress ≡ starting call arguments.now phases }
     {
         Progress {
-            number,
+            call,
             arguments: *arguments,
             phases,
             buffer: Vec::new(alloc),
@@ -137,7 +124,7 @@ impl Progress {
     {
         match self.phases.kind() {
             Some(Kind::Scatter) => Access::Write,
-            Some(Kind::Stream) if is_read(self.number) => Access::Write,
+            Some(Kind::Stream) if self.call.is_read() => Access::Write,
             _ => Access::Read,
         }
     }
@@ -146,7 +133,7 @@ impl Progress {
     fn own_offset(&self) -> Option<u64>
         ensures { result ≡ offset_argument self.now.progress }
     {
-        if self.number == PREAD64 || self.number == PWRITE64 {
+        if self.call.has_offset() {
             Some(self.arguments[3])
         } else {
             None
@@ -161,7 +148,7 @@ impl Progress {
         let at = self.own_offset();
         let moved = self.moved;
         let len = self.next_piece().len;
-        if is_read(self.number) {
+        if self.call.is_read() {
             FileOp::Get {
                 desc,
                 at,
@@ -195,7 +182,7 @@ impl Progress {
         ensures { result ≡ interrupted_answer self.now.progress }
     {
         if self.moved == 0 {
-            -4
+            EINTR
         } else {
             i64::from(self.moved)
         }
@@ -206,7 +193,7 @@ impl Progress {
         ensures { result ≡ calls.fault_answer self.now.progress }
     {
         if self.moved == 0 {
-            -14
+            EFAULT
         } else {
             i64::from(self.moved)
         }

@@ -3,11 +3,11 @@ ghost use Rattle.std.specs.Prelude.{◌≡◌, ◌≤◌, ℕ, List, OnOk, lengt
 ghost use Rattle.call_progress.specs.Kept.{HasOut};
 ghost use Rattle.call_progress.specs.Streams.{HasRoomForPiece, HasRoomForStep};
 ghost use Rattle.file_calls.specs.Pieces.{HasRoom};
-ghost use Rattle.kernel_model.specs.Plans.{act_of};
+ghost use Rattle.kernel_model.specs.CallPhases.{act_of};
 ghost use Rattle.kernel_model.specs.Progress.{next_piece};
 
 use crate::progress::Progress;
-use call_plan::Kind;
+use call_phases::Kind;
 use file_calls::store::FileStore;
 use file_model::FileOp;
 use mck_word::NoMemory;
@@ -38,16 +38,16 @@ impl Progress {
     fn make_room_for_act<S: FileStore>(&mut self, files: &mut S) -> Result<(), NoMemory>
         ensures same { self.new.progress ≡ self.old.progress }
         ensures files { S.files files.new ≡ S.files files.old }
-        ensures room { OnOk result (HasRoom (S.room files.new) (S.can_write files.new) (S.files files.new) (act_of self.new.progress.number self.new.progress.arguments)) }
-        ensures out { OnOk result (HasOut (act_of self.new.progress.number self.new.progress.arguments) self.new.out) }
+        ensures room { OnOk result (HasRoom (S.room files.new) (S.can_write files.new) (S.files files.new) (act_of self.new.progress.call self.new.progress.arguments)) }
+        ensures out { OnOk result (HasOut (act_of self.new.progress.call self.new.progress.arguments) self.new.out) }
     {
-        let op = call_plan::act_of(self.number, &self.arguments);
+        let op = call_phases::act_of(self.call, &self.arguments);
         files.make_room(&op)?;
         self.make_out(&op)
     }
 
-    /// Makes the room that the next step needs, where it is a file step. The progress and the contents of the files stay, also where
-    /// memory lacks.
+    /// Makes the room that the next step needs, where it is a file step. The progress and the contents of the files
+    /// stay, also where memory lacks.
     pub fn make_room_for_step<S: FileStore>(&mut self, files: &mut S) -> Result<(), NoMemory>
         ensures same { self.new.progress ≡ self.old.progress }
         ensures files { S.files files.new ≡ S.files files.old }
@@ -60,7 +60,8 @@ impl Progress {
         }
     }
 
-    /// Makes the room that the next piece needs. The progress and the contents of the files stay, also where memory lacks.
+    /// Makes the room that the next piece needs. The progress and the contents of the files stay, also where memory
+    /// lacks.
     pub fn make_room_for_piece<S: FileStore>(&mut self, files: &mut S) -> Result<(), NoMemory>
         ensures same { self.new.progress ≡ self.old.progress }
         ensures files { S.files files.new ≡ S.files files.old }

@@ -8,13 +8,14 @@ ghost use Rattle.kernel_model.specs.Progress as calls;
 ghost use Rattle.kernel_model.specs.Progress.{next_kind, next_piece};
 
 use crate::progress::Progress;
-use call_plan::Kind;
+use call_phases::Kind;
 use file_calls::store::FileStore;
 use mck_word::Pid;
 
 impl Progress {
-    /// Moves the next piece, which is ready, between the 4,096 bytes of its page and the buffer or a file; answers the call's answer
-    /// where it has ended. The page's number is that of an address of 63 bits: a page that is present has a smaller one.
+    /// Moves the next piece, which is ready, between the 4,096 bytes of its page and the buffer or a file; answers the
+    /// call's answer where it has ended. The page's number is that of an address of 63 bits: a page that is present
+    /// has a smaller one.
     pub fn move_piece<S: FileStore>(
         &mut self,
         files: &mut S,
@@ -37,8 +38,8 @@ impl Progress {
 
     /// Makes the next step of the call, which is a file step; answers the call's answer where it has ended.
     ///
-    /// A description counts the calls that hold it in 32 bits, and one more has to fit. A thread has at most one call under way, so
-    /// that is so wherever there are fewer than 2^32 - 1 threads.
+    /// A description counts the calls that hold it in 32 bits, and one more has to fit. A thread has at most one call
+    /// under way, so that is so wherever there are fewer than 2^32 - 1 threads.
     pub fn take_file_step<S: FileStore>(&mut self, files: &mut S, pid: Pid) -> Option<i64>
         requires kind { next_kind (S.files files.old) self.old.progress ≡ readiness.FileStep }
         requires room { HasRoomForStep (S.room files.old) (S.can_write files.old) (S.files files.old) self.old }

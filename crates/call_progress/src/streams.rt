@@ -1,7 +1,7 @@
 // The pieces of streams, and the file step that ends one.
 ghost use Rattle.std.specs.Prelude.{◌≡◌, ◌≤◌, ◌<◌, ◌+◌, ◌^◌, [], ℕ, MatchOption, Some, drop, length, slice_get, take};
-ghost use Rattle.call_plan.specs.Stages.{kind_of};
-ghost use Rattle.call_plan.specs.declared.phases.Kind.{Kind as kind};
+ghost use Rattle.call_phases.specs.Stages.{kind_of};
+ghost use Rattle.call_phases.specs.declared.phases.Kind.{Kind as kind};
 ghost use Rattle.call_progress.specs.Kept.{after, moved};
 ghost use Rattle.call_progress.specs.Streams.{EndsStream, HasMoved, IsStream, len_asked};
 ghost use Rattle.file_calls.specs.Pieces.{HasRoom};

@@ -16,7 +16,7 @@ use Rattle.hybrid_model.specs.Rings.{ring}
 use Rattle.hybrid_model.specs.Sides.{Caller, Round, Side, state_in}
 use Rattle.hybrid_model.specs.Tallies.{Each, Reads, as_number, if_same, tally}
 use Rattle.hybrid_model.specs.declared.events.Event.{Event}
-use Rattle.ikc_ring.specs.declared.Call.{Call}
+use Rattle.ikc_ring.specs.declared.CallRequest.{CallRequest}
 use Rattle.ikc_ring.specs.declared.Msg.TheVariants.{Request, Clear, Answer, Interrupt, Reply, Ack, Fault}
 use Rattle.ikc_ring.specs.declared.Msg.{Msg}
 use Rattle.kernel_model.specs.Nodes.{Node, Thread}
@@ -89,7 +89,7 @@ acked-most (Some r) = go r.0
     go Taken = omega arith
     go Acked = omega arith
 
-faulting-most : (rows : Reads (ReqState × Call)) (o : Option ℕ) → faulting rows o ≤ 1
+faulting-most : (rows : Reads (ReqState × CallRequest)) (o : Option ℕ) → faulting rows o ≤ 1
 faulting-most rows None = omega arith
 faulting-most rows (Some q) = go (state_at rows q)
   where
@@ -107,7 +107,7 @@ module _ (p : ℕ) (side : Side) (node : Node) (worker_count : ℕ) (ring_of : �
   abbrev threads : Reads Thread
   threads = at node.threads
 
-  abbrev rows : Reads (ReqState × Call)
+  abbrev rows : Reads (ReqState × CallRequest)
   rows = at side.book.rows
 
   abbrev callers : Reads Caller
@@ -123,7 +123,7 @@ module _ (p : ℕ) (side : Side) (node : Node) (worker_count : ℕ) (ring_of : �
       let b = ap as_number e in
       omega (arith, a, b)
 
-  request-place : (c : Call) → rows c.q.0 ≡ Some (Posted, c) → 1 ≤ sum_below (λ j. as_number (is_of_place threads j (Request c))) 16
+  request-place : (c : CallRequest) → rows c.q.0 ≡ Some (Posted, c) → 1 ≤ sum_below (λ j. as_number (is_of_place threads j (Request c))) 16
   request-place c e = go (callers c.tid.0) refl (sym (ap (λ t. calls_it c.q.0 (callers t)) (ap tid_in e)) ∙ k.answered.live c.q.0 (ap (λ o. is_live (state_in o)) e))
     where
       go : (o : Option Caller) → callers c.tid.0 ≡ o → calls_it c.q.0 o ≡ true → 1 ≤ sum_below (λ j. as_number (is_of_place threads j (Request c))) 16

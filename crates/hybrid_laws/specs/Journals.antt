@@ -3,19 +3,18 @@ use Rattle.hybrid_laws.specs.Lasting.{Lasting}
 use Rattle.hybrid_model.specs.Claims.{AtEach, Holds, Runs, replies}
 use Rattle.hybrid_model.specs.Globals.{Coherent}
 use Rattle.hybrid_model.specs.Journals.{images, state}
-use Rattle.hybrid_model.specs.Workers.{holds}
 use Rattle.hybrid_model.specs.Pairs.{Pair, side_of}
 use Rattle.hybrid_model.specs.Shown.{one}
 use Rattle.hybrid_model.specs.Sides.{Side}
 use Rattle.hybrid_model.specs.Tallies.{as_number}
 use Rattle.hybrid_model.specs.declared.events.Event.{Event}
-use Rattle.ikc_ring.specs.declared.Call.{Call}
+use Rattle.ikc_ring.specs.declared.CallRequest.{CallRequest}
 use Rattle.mck_word.specs.Maps.{at}
 use Rattle.request_book.specs.declared.ReqState.{ReqState}
 use Rattle.std.specs.Prelude.{List, Option, is_none, nat_lt, ℕ, ◌&&◌, ◌+◌, ◌≡◌}
 
 -- a number that was given and stands no more in the book
-abbrev pub gone_in : Option (ReqState × Call) → ℕ → ℕ → ℕ
+abbrev pub gone_in : Option (ReqState × CallRequest) → ℕ → ℕ → ℕ
 gone_in o q next = as_number (nat_lt q next && is_none o)
 
 abbrev pub gone : Side → ℕ → ℕ

@@ -1,14 +1,12 @@
 -- What a law of an event on one process asks of the node, of the rings, and of the frames.
-use Rattle.kernel_model.specs.Spaces as one
 use Rattle.hybrid_model.specs.Globals.{Places, Sleeping, Frames}
 use Rattle.hybrid_model.specs.Pairs.{Here}
-use Rattle.hybrid_model.specs.Shown.{one}
 use Rattle.hybrid_model.specs.Sides.{Row}
 use Rattle.hybrid_model.specs.Spaces.{Space}
 use Rattle.hybrid_model.specs.Tallies.{Reads}
 use Rattle.kernel_model.specs.Nodes.{Node, Thread, Process}
 use Rattle.mck_word.specs.Maps.{at}
-use Rattle.std.specs.Prelude.{Some, length, ℕ, ◌<◌, ◌==◌, ◌≡◌, ◌≤◌, if◌then◌else◌, ◌-◌}
+use Rattle.std.specs.Prelude.{Some, length, ℕ, ◌<◌, ◌==◌, ◌≡◌, ◌≤◌, if◌then◌else◌}
 
 -- what the node's own part of coherence gives the laws of one event
 pub record NodeHolds (node : Node) : Type 0 where

@@ -29,7 +29,7 @@ use Rattle.kernel_model.specs.declared.steps.Step.{Step}
 use Rattle.mck_word.specs.Maps.{at}
 use Rattle.page_pins.specs.declared.Pin.{Pin}
 use Rattle.request_book.specs.declared.ReqState.TheVariants.{Parked}
-use Rattle.std.specs.Prelude.{ℕ, ◌+◌, ◌<◌, ◌==◌, ◌≡◌, ◌≢◌, ◌≤◌, ◌⊎◌, ◌&&◌, Bool, false, true, cond, List, [], ◌∷◌, Option, Some, None, length}
+use Rattle.std.specs.Prelude.{ℕ, ◌+◌, ◌<◌, ◌==◌, ◌≡◌, ◌≢◌, ◌≤◌, ◌⊎◌, ◌&&◌, false, true, cond, List, [], ◌∷◌, Some, length}
 
 -- ---- copies
 

@@ -4,7 +4,7 @@ use Rattle.clear_rounds.specs.declared.Phase.{Phase}
 use Rattle.clear_rounds.specs.declared.Phase.TheVariants.{Posted as RoundPosted, Taken, Acked}
 use Rattle.hybrid_model.specs.Sides.{Row, Noted, Round, Caller, Service, Side, state_in, call_in, closes, no_service}
 use Rattle.hybrid_model.specs.Tallies.{Reads, tally, Each, sum_rings, EachRing, EachNumbered, if_same, as_number, counted}
-use Rattle.ikc_ring.specs.declared.Call.{Call}
+use Rattle.ikc_ring.specs.declared.CallRequest.{CallRequest}
 use Rattle.ikc_ring.specs.declared.Msg.{Msg}
 use Rattle.ikc_ring.specs.declared.Msg.TheVariants.{Request, Clear, Answer, Interrupt, Reply, Ack, Fault}
 use Rattle.isa_model.specs.Memory.{allows}
@@ -145,7 +145,7 @@ Owned process threads p (Some r) (Some t) = Owns process threads p t r.1
 
 -- ---- requests
 
-abbrev pub state_at : Reads (ReqState × Call) → ℕ → ReqState
+abbrev pub state_at : Reads (ReqState × CallRequest) → ℕ → ReqState
 state_at rows q = state_in (rows q)
 
 abbrev pub service_at : Reads Service → ℕ → Service
@@ -200,10 +200,10 @@ holder Faulted w = Some w
 holder Ended w = Some w
 holder _ w = None
 
-abbrev pub holder_at : Reads (ReqState × Call) → Reads Service → ℕ → Option ℕ
+abbrev pub holder_at : Reads (ReqState × CallRequest) → Reads Service → ℕ → Option ℕ
 holder_at rows services q = holder (state_at rows q) (service_at services q).worker
 
-abbrev pub faulting : Reads (ReqState × Call) → Option ℕ → ℕ
+abbrev pub faulting : Reads (ReqState × CallRequest) → Option ℕ → ℕ
 faulting rows None = 0
 faulting rows (Some q) = is_faulted (state_at rows q)
 
@@ -232,7 +232,7 @@ abbrev pub AnswerIsFor : Reads ℕ → Reads Service → Msg → Type 0
 AnswerIsFor workers services (Answer w page number row) = AnswersNext workers services w page row
 AnswerIsFor workers services _ = Unit {0}
 
-pub record PinServes (workers : Reads ℕ) (rows : Reads (ReqState × Call)) (services : Reads Service) (w : ℕ) (x : Pin) : Type 0 where
+pub record PinServes (workers : Reads ℕ) (rows : Reads (ReqState × CallRequest)) (services : Reads Service) (w : ℕ) (x : Pin) : Type 0 where
   pub number : ℕ
   pub serves : workers w ≡ Some number
   pub not_faulted : is_faulted (state_at rows number) ≡ 0
@@ -241,7 +241,7 @@ pub record PinServes (workers : Reads ℕ) (rows : Reads (ReqState × Call)) (se
   pub page_is : x.copied ≡ false → (next_piece (service_at services number).progress).page ≡ x.page
   pub right : x.copied ≡ false → allows (needed_access (service_at services number).progress) x.rights ≡ true
 
-pub record Served (worker_count : ℕ) (workers : Reads ℕ) (rows : Reads (ReqState × Call)) (services : Reads Service) (pins : Reads Pin) (waiting : List ℕ) (noted : Reads Noted) (rings : List (List Msg)) (bs : List Msg) : Type 0 where
+pub record Served (worker_count : ℕ) (workers : Reads ℕ) (rows : Reads (ReqState × CallRequest)) (services : Reads Service) (pins : Reads Pin) (waiting : List ℕ) (noted : Reads Noted) (rings : List (List Msg)) (bs : List Msg) : Type 0 where
   pub worker_below : (w q : ℕ) → workers w ≡ Some q → w < worker_count
   pub requests : (q : ℕ) → sum_rings (asks q) rings ≡ is_posted (state_at rows q)
   pub waits : (q : ℕ) → tally (if_same q) waiting ≡ is_waiting (state_at rows q)
@@ -257,22 +257,22 @@ pub record Served (worker_count : ℕ) (workers : Reads ℕ) (rows : Reads (ReqS
 -- ---- replies and callers
 
 -- a message to the lightweight kernel that is a Reply is for a number that left the book and that some thread still calls
-pub record IsAwaited (rows : Reads (ReqState × Call)) (callers : Reads Caller) (q : ℕ) : Type 0 where
+pub record IsAwaited (rows : Reads (ReqState × CallRequest)) (callers : Reads Caller) (q : ℕ) : Type 0 where
   pub gone : rows q ≡ None
   pub thread : ℕ
   pub caller : Caller
   pub calls : callers thread ≡ Some caller
   pub number : caller.request ≡ q
 
-abbrev pub ReplyIsAwaited : Reads (ReqState × Call) → Reads Caller → Msg → Type 0
+abbrev pub ReplyIsAwaited : Reads (ReqState × CallRequest) → Reads Caller → Msg → Type 0
 ReplyIsAwaited rows callers (Reply q code) = IsAwaited rows callers q.0
 ReplyIsAwaited rows callers _ = Unit {0}
 
-abbrev pub tid_in : Option (ReqState × Call) → ℕ
+abbrev pub tid_in : Option (ReqState × CallRequest) → ℕ
 tid_in o = (call_in o).tid.0
 
 -- a thread that calls with q: it is the one that the book names, or q is replied and its one Reply is under way
-pub record CallHolds (rows : Reads (ReqState × Call)) (next t q : ℕ) (bs : List Msg) : Type 0 where
+pub record CallHolds (rows : Reads (ReqState × CallRequest)) (next t q : ℕ) (bs : List Msg) : Type 0 where
   pub given : q < next
   pub named : is_live (state_at rows q) ≡ true → tid_in (rows q) ≡ t
   pub replied : rows q ≡ None → tally (replies_to q) bs ≡ 1
@@ -281,14 +281,14 @@ abbrev pub calls_it : ℕ → Option Caller → Bool
 calls_it q None = false
 calls_it q (Some c) = c.request == q
 
-pub record Answered (rows : Reads (ReqState × Call)) (callers : Reads Caller) (next : ℕ) (bs : List Msg) : Type 0 where
+pub record Answered (rows : Reads (ReqState × CallRequest)) (callers : Reads Caller) (next : ℕ) (bs : List Msg) : Type 0 where
   pub awaited : Each (ReplyIsAwaited rows callers) bs
   pub calls : (t : ℕ) (c : Caller) → callers t ≡ Some c → CallHolds rows next t c.request bs
   pub alone : (t u : ℕ) (c d : Caller) → callers t ≡ Some c → callers u ≡ Some d → c.request ≡ d.request → t ≡ u
   pub live : (q : ℕ) → is_live (state_at rows q) ≡ true → calls_it q (callers (tid_in (rows q))) ≡ true
   pub replies : (q : ℕ) → tally (replies_to q) bs ≤ 1
   pub fresh : (q : ℕ) → next ≤ q → rows q ≡ None
-  pub not_replied : (q : ℕ) (r : ReqState × Call) → rows q ≡ Some r → is_live r.0 ≡ true
+  pub not_replied : (q : ℕ) (r : ReqState × CallRequest) → rows q ≡ Some r → is_live r.0 ≡ true
 
 -- the threads of the process that are Called are those with a caller's row
 pub record CallsAgree (p : ℕ) (threads : Reads Thread) (callers : Reads Caller) : Type 0 where
@@ -296,7 +296,7 @@ pub record CallsAgree (p : ℕ) (threads : Reads Thread) (callers : Reads Caller
   pub there : (t : ℕ) (c : Caller) → callers t ≡ Some c → (x : Thread) × (threads t ≡ Some x) × (x.process ≡ p)
 
 -- a Request in a ring has the book's call, which is Posted
-abbrev pub RequestIs : Reads (ReqState × Call) → Msg → Type 0
+abbrev pub RequestIs : Reads (ReqState × CallRequest) → Msg → Type 0
 RequestIs rows (Request c) = rows c.q.0 ≡ Some (Posted, c)
 RequestIs rows _ = Unit {0}
 
@@ -333,27 +333,27 @@ IsPart state (Interrupt n place ∷ ms) = (is_posted (state n.0) ≡ 0) × AtMos
 IsPart state ms = AtMostRequest ms
 
 -- the Request of a call stands in the ring of its thread, and so does its Interrupt
-abbrev pub InOwnRing : (ring_of : ℕ → ℕ) → Reads (ReqState × Call) → ℕ → Msg → Type 0
+abbrev pub InOwnRing : (ring_of : ℕ → ℕ) → Reads (ReqState × CallRequest) → ℕ → Msg → Type 0
 InOwnRing ring_of rows r (Request c) = ring_of c.tid.0 ≡ r
 InOwnRing ring_of rows r (Interrupt q place) = is_live (state_at rows q.0) ≡ true → ring_of (tid_in (rows q.0)) ≡ r
 InOwnRing ring_of rows r _ = Unit {0}
 
-pub record Placed (rows : Reads (ReqState × Call)) (threads : Reads Thread) (ring_of : ℕ → ℕ) (r : ℕ) (ms : List Msg) : Type 0 where
+pub record Placed (rows : Reads (ReqState × CallRequest)) (threads : Reads Thread) (ring_of : ℕ → ℕ) (r : ℕ) (ms : List Msg) : Type 0 where
   pub parts : (k : ℕ) → IsPart (state_at rows) (of_place threads k ms)
   pub own : Each (InOwnRing ring_of rows r) ms
 
 -- where the Request of a thread's call was fetched, an Interrupt of that call alone may stand in its ring for its place
-abbrev pub OnlyOwn : Reads (ReqState × Call) → Reads Thread → (ℕ → ℕ) → Reads Caller → ℕ → List Msg → Type 0
+abbrev pub OnlyOwn : Reads (ReqState × CallRequest) → Reads Thread → (ℕ → ℕ) → Reads Caller → ℕ → List Msg → Type 0
 OnlyOwn rows threads ring_of callers r ms =
     (t : ℕ) (x : Thread) (c : Caller) → threads t ≡ Some x → callers t ≡ Some c → ring_of t ≡ r → is_posted (state_at rows c.request) ≡ 0
     → AtMostInterrupt c.request (of_place threads x.place ms)
 
-pub record Messages (rows : Reads (ReqState × Call)) (threads : Reads Thread) (ring_of : ℕ → ℕ) (callers : Reads Caller) (rings : List (List Msg)) : Type 0 where
+pub record Messages (rows : Reads (ReqState × CallRequest)) (threads : Reads Thread) (ring_of : ℕ → ℕ) (callers : Reads Caller) (rings : List (List Msg)) : Type 0 where
   pub placed : EachNumbered (Placed rows threads ring_of) 0 rings
   pub only : EachNumbered (OnlyOwn rows threads ring_of callers) 0 rings
 
 -- An Interrupt is of a number that was given. Its place is one of sixteen, and while the request is live it is that of the calling thread.
-abbrev pub InterruptIs : ℕ → Reads (ReqState × Call) → Reads Thread → Msg → Type 0
+abbrev pub InterruptIs : ℕ → Reads (ReqState × CallRequest) → Reads Thread → Msg → Type 0
 InterruptIs next rows threads (Interrupt q place) =
     (q.0 < next) × (place < 16) × (is_live (state_at rows q.0) ≡ true → place_in place (threads (tid_in (rows q.0))) ≡ true)
 InterruptIs next rows threads _ = Unit {0}

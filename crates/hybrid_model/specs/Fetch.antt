@@ -5,10 +5,10 @@ use Rattle.hybrid_model.specs.Pairs.{Here, with_side}
 use Rattle.hybrid_model.specs.Rings.{with_ring}
 use Rattle.hybrid_model.specs.Sides.{Book, LinuxSide, Round, Row, Service, served, serves, service_of, state_of, with_phase, with_service, with_state}
 use Rattle.hybrid_model.specs.Workers.{is_ended_or_replied}
-use Rattle.ikc_ring.specs.declared.Call.{Call}
+use Rattle.ikc_ring.specs.declared.CallRequest.{CallRequest}
 use Rattle.ikc_ring.specs.declared.Msg.{Msg}
 use Rattle.ikc_ring.specs.declared.Msg.TheVariants.{Ack, Answer, Clear, Fault, Interrupt, Reply, Request}
-use Rattle.kernel_model.specs.Plans.{Delegated, Phase as CallPhase, Plan, plan}
+use Rattle.kernel_model.specs.CallPhases.{phases_of}
 use Rattle.kernel_model.specs.Progress.{Progress, fault_answer, starting}
 use Rattle.mck_word.specs.Maps.{Map, keep, put}
 use Rattle.mck_word.specs.Pages.{in_range}
@@ -25,18 +25,14 @@ pub record Fetched : Type 0 where
 abbrev pub fetched_as : LinuxSide → Book → Option Round → Fetched
 fetched_as l b o = record { linux = l; book = b; round = o }
 
-abbrev pub phases_in : Plan → List CallPhase
-phases_in (Delegated phases) = phases
-phases_in _ = []
-
 -- how far a call is before its first step
-abbrev pub first_progress : Call → Progress
-first_progress c = starting c.number c.args (phases_in (plan c.number c.args))
+abbrev pub first_progress : CallRequest → Progress
+first_progress c = starting c.call c.args (phases_of c.call c.args)
 
-abbrev pub new_service : Call → Service
+abbrev pub new_service : CallRequest → Service
 new_service c = record { progress = first_progress c; interrupted = false; worker = 0; answer = pos 0 }
 
-unfoldable pub fetch_request : Call → LinuxSide → Book → Option Round → Fetched
+unfoldable pub fetch_request : CallRequest → LinuxSide → Book → Option Round → Fetched
 fetch_request c l b o =
     fetched_as (with_service l c.q.0 (new_service c)) (record (with_state b c.q.0 Waiting) { waiting = b.waiting ++ c.q.0 ∷ [] }) o
 

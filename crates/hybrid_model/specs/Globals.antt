@@ -13,9 +13,8 @@ use Rattle.kernel_model.specs.Nodes.{Node, Thread, Process, Sleeper, is_ended, i
 use Rattle.kernel_model.specs.OneKernel.{first_free_number, CallStatus, Active, Blocked, Over}
 use Rattle.kernel_model.specs.Pages.{page_size}
 use Rattle.kernel_model.specs.declared.Does.TheVariants.{Asleep}
-use Rattle.kernel_model.specs.Plans.{Phase, Gather, Act, Scatter, Stream, delegated_calls}
+use Rattle.kernel_model.specs.CallPhases.{Phase, Gather, Act, Scatter, Stream}
 use Rattle.kernel_model.specs.Progress.{Progress}
-use Rattle.mck_word.specs.Lists.{member}
 use Rattle.mck_word.specs.Maps.{at, no_rows, total, values, count, entries}
 use Rattle.request_book.specs.declared.ReqState.{ReqState}
 use Rattle.request_book.specs.declared.ReqState.TheVariants.{Waiting, Held}
@@ -93,9 +92,8 @@ acts_left (Act ∷ phases) = 1 + acts_left phases
 acts_left (Scatter rs ∷ phases) = acts_left phases
 acts_left (Stream rs ∷ phases) = acts_left phases
 
--- a call under way is a delegated one, has a phase left, and found its description only by the one act that it had
+-- a call under way has a phase left, and found its description only by the one act that it had
 pub record IsUnderWay (p : Progress) : Type 0 where
-  pub delegated : member p.number delegated_calls ≡ true
   pub phases : 1 ≤ length p.phases
   pub acts : acts_left p.phases + counted p.found ≤ 1
 

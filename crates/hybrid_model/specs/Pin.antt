@@ -1,7 +1,6 @@
 -- Pin: a worker pins the frame that the mirror's row names.
 -- Source: this project's own, after the idea of IHK/McKernel.
 use Rattle.file_model.specs.Files.{Files}
-use Rattle.hybrid_model.specs.Copy.{copied}
 use Rattle.hybrid_model.specs.Sides.{Book, LinuxSide, Row, served}
 use Rattle.hybrid_model.specs.Workers.{is_free_to_act, kind_for, row_for}
 use Rattle.kernel_model.specs.Progress.{is_ready, next_piece}

@@ -5,7 +5,7 @@ use Rattle.hybrid_model.specs.Pairs.{Pair, Here}
 use Rattle.hybrid_model.specs.Sides.{Side, Caller, Service, call_in, no_service, state_in}
 use Rattle.hybrid_model.specs.Spaces.{shown_memory}
 use Rattle.hybrid_model.specs.Tallies.{Reads}
-use Rattle.ikc_ring.specs.declared.Call.{Call}
+use Rattle.ikc_ring.specs.declared.CallRequest.{CallRequest}
 use Rattle.ikc_ring.specs.declared.Msg.{Msg}
 use Rattle.ikc_ring.specs.declared.Msg.TheVariants.{Request, Clear, Answer, Interrupt, Reply, Ack, Fault}
 use Rattle.kernel_model.specs.OneKernel.{OneKernel, OneHere, Own, Call as OneCall, CallStatus, Active, Blocked, Over}
@@ -48,7 +48,7 @@ ended_if true p = Over (fault_answer p)
 ended_if false p = Active p
 
 -- A call is over where its request is Ended, its Reply is in the ring, or an empty answer to its worker is. It is Blocked where its request is Parked, and else Active.
-abbrev pub status_in : ReqState → Call → Service → Bool → ℤ → CallStatus
+abbrev pub status_in : ReqState → CallRequest → Service → Bool → ℤ → CallStatus
 status_in Posted c k empty code = Active (first_progress c)
 status_in Waiting c k empty code = Active k.progress
 status_in Held c k empty code = Active k.progress
@@ -57,7 +57,7 @@ status_in Faulted c k empty code = ended_if empty k.progress
 status_in Ended c k empty code = Over k.answer
 status_in Replied c k empty code = Over code
 
-abbrev pub status_by : Reads (ReqState × Call) → Reads Service → Reads ℕ → List (List Msg) → List Msg → ℕ → CallStatus
+abbrev pub status_by : Reads (ReqState × CallRequest) → Reads Service → Reads ℕ → List (List Msg) → List Msg → ℕ → CallStatus
 status_by rows services workers rings bs q =
     status_in (state_in (rows q)) (call_in (rows q)) (unwrap_or (services q) no_service) (has_empty workers q rings) (reply_code q bs)
 

@@ -1,7 +1,7 @@
 -- What the two kernels keep of one process, beside its part of the node.
 -- Source: this project's own, after the idea of IHK/McKernel.
 use Rattle.clear_rounds.specs.declared.Phase.{Phase}
-use Rattle.ikc_ring.specs.declared.Call.{Call}
+use Rattle.ikc_ring.specs.declared.CallRequest.{CallRequest}
 use Rattle.ikc_ring.specs.declared.Msg.{Msg}
 use Rattle.isa_model.specs.Memory.{allows}
 use Rattle.kernel_model.specs.Progress.{Progress, no_progress}
@@ -16,6 +16,7 @@ use Rattle.request_book.specs.Requests.{Requests}
 use Rattle.request_book.specs.declared.ReqState.{ReqState}
 use Rattle.request_book.specs.declared.ReqState.TheVariants.{Replied}
 use Rattle.std.specs.Prelude.{Bool, List, None, Option, Some, [], false, if◌then◌else◌, pos, replicate, true, unwrap_or, ℕ, ℤ}
+use Rattle.system_calls.specs.declared.file_calls.FileCall.TheVariants.{Close}
 
 -- a row of a table or of a mirror
 abbrev pub Row : Type 0
@@ -95,14 +96,14 @@ no_service = record { progress = no_progress; interrupted = false; worker = 0; a
 abbrev pub service_of : Map Service → ℕ → Service
 service_of services q = unwrap_or (at services q) no_service
 
-abbrev pub no_call : Call
-no_call = record { q = record { 0 = 0 }; tid = record { 0 = 0 }; number = 0; args = replicate 6 0 }
+abbrev pub no_call : CallRequest
+no_call = record { q = record { 0 = 0 }; tid = record { 0 = 0 }; call = Close; args = replicate 6 0 }
 
-abbrev pub state_in : Option (ReqState × Call) → ReqState
+abbrev pub state_in : Option (ReqState × CallRequest) → ReqState
 state_in None = Replied
 state_in (Some r) = r.0
 
-abbrev pub call_in : Option (ReqState × Call) → Call
+abbrev pub call_in : Option (ReqState × CallRequest) → CallRequest
 call_in None = no_call
 call_in (Some r) = r.1
 
@@ -110,11 +111,11 @@ call_in (Some r) = r.1
 abbrev pub state_of : Book → ℕ → ReqState
 state_of b q = state_in (at b.rows q)
 
-abbrev pub call_of : Book → ℕ → Call
+abbrev pub call_of : Book → ℕ → CallRequest
 call_of b q = call_in (at b.rows q)
 
 -- the book with another state at a number that stands in it
-abbrev pub stated : ReqState → Option (ReqState × Call) → ℕ → Map (ReqState × Call) → Map (ReqState × Call)
+abbrev pub stated : ReqState → Option (ReqState × CallRequest) → ℕ → Map (ReqState × CallRequest) → Map (ReqState × CallRequest)
 stated s None q rows = rows
 stated s (Some r) q rows = put rows q (s, r.1)
 

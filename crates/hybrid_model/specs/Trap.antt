@@ -5,7 +5,7 @@ use Rattle.hybrid_model.specs.Pairs.{Here, ring_of, with_node, with_side}
 use Rattle.hybrid_model.specs.Rings.{post}
 use Rattle.hybrid_model.specs.Sides.{Side, new_side, no_lwk}
 use Rattle.hybrid_model.specs.Spaces.{Space, copied_pages, shown_memory, written_back}
-use Rattle.ikc_ring.specs.declared.Call.{Call}
+use Rattle.ikc_ring.specs.declared.CallRequest.{CallRequest}
 use Rattle.ikc_ring.specs.declared.Msg.TheVariants.{Request}
 use Rattle.isa_model.specs.Memory.{Memory}
 use Rattle.kernel_model.specs.MemoryCalls.{answer_of_change, effect_of}
@@ -18,8 +18,8 @@ use Rattle.mck_word.specs.Maps.{change, entries, no_rows, put}
 use Rattle.request_book.specs.declared.ReqState.TheVariants.{Posted}
 use Rattle.std.specs.Prelude.{List, Some, false, length, ℕ, ◌+◌}
 
-abbrev pub call_made : ℕ → ℕ → Progress → Call
-call_made q t p = record { q = record { 0 = q }; tid = record { 0 = t }; number = p.number; args = p.arguments }
+abbrev pub call_made : ℕ → ℕ → Progress → CallRequest
+call_made q t p = record { q = record { 0 = q }; tid = record { 0 = t }; call = p.call; args = p.arguments }
 
 -- a call begins: it has the next number, and its Request is posted to the ring of its thread
 unfoldable pub begin_call : ℕ → ℕ → Progress → Side → Side

@@ -1,5 +1,5 @@
 pub mod Pages
-pub mod Plans
+pub mod CallPhases
 pub mod Progress
 pub mod SignalSets
 pub mod Nodes

@@ -2,6 +2,7 @@
 -- Source: man-pages section 2 (mmap, munmap, mprotect, brk); rounds and bounds are this project's own.
 use Rattle.file_model.specs.Errno.{EINVAL, ENOMEM}
 use Rattle.isa_model.specs.Memory.{Page, allows, Memory}
+use Rattle.kernel_model.specs.CallPhases.{argument}
 use Rattle.kernel_model.specs.Nodes.{Process}
 use Rattle.kernel_model.specs.Pages.{page_end, page_number, page_size, pages_count, range}
 use Rattle.kernel_model.specs.declared.Change.{Change}
@@ -14,7 +15,9 @@ use Rattle.mck_word.specs.Words.{has_bit, refused}
 use Rattle.mck_word.specs.declared.Access.{Access}
 use Rattle.mck_word.specs.declared.Access.TheVariants.{Exec, Read, Write}
 use Rattle.mck_word.specs.declared.PageRange.{PageRange}
-use Rattle.std.specs.Prelude.{find, Bool, List, None, Option, Some, cond, false, filter, get_or, length, nat_le, nat_lt, not, pos, true, ℕ, ℤ, ◌%◌, ◌&&◌, ◌*◌, ◌+◌, ◌-◌, ◌==◌, ◌^◌, ◌||◌, ◌∷◌}
+use Rattle.std.specs.Prelude.{find, Bool, List, None, Option, Some, cond, false, filter, length, nat_le, nat_lt, not, pos, true, ℕ, ℤ, ◌%◌, ◌&&◌, ◌*◌, ◌+◌, ◌-◌, ◌==◌, ◌^◌, ◌||◌, ◌∷◌}
+use Rattle.system_calls.specs.declared.MemoryCall.{MemoryCall}
+use Rattle.system_calls.specs.declared.MemoryCall.TheVariants as calls
 
 -- ---- bounds
 
@@ -201,16 +204,12 @@ brk p m free a =
 abbrev pub low_word : ℕ → ℕ
 low_word n = n % 2 ^ 32
 
-abbrev pub decide : Process → Memory → ℕ → ℕ → List ℕ → Decision
-decide p m free number arguments =
-    let a0 = get_or arguments 0 0 in
-    let a1 = get_or arguments 1 0 in
-    let a2 = get_or arguments 2 0 in
-    let a3 = get_or arguments 3 0 in
-    cond (number == 222) (mmap m free a0 a1 (low_word a2) (low_word a3))
-    (cond (number == 215) (munmap m a0 a1)
-    (cond (number == 226) (mprotect m a0 a1 (low_word a2))
-    (brk p m free a0)))
+abbrev pub decide : Process → Memory → ℕ → MemoryCall → List ℕ → Decision
+decide p m free calls.Mmap arguments =
+    mmap m free (argument arguments 0) (argument arguments 1) (low_word (argument arguments 2)) (low_word (argument arguments 3))
+decide p m free calls.Munmap arguments = munmap m (argument arguments 0) (argument arguments 1)
+decide p m free calls.Mprotect arguments = mprotect m (argument arguments 0) (argument arguments 1) (low_word (argument arguments 2))
+decide p m free calls.Brk arguments = brk p m free (argument arguments 0)
 
 -- ---- finishing a round: a refusal, or none where the change is made
 abbrev pub refusal_at_end : Process → Memory → ℕ → Change → Option ℤ

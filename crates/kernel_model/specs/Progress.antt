@@ -10,7 +10,7 @@ use Rattle.file_model.specs.declared.operations.Readiness.{Readiness}
 use Rattle.file_model.specs.declared.operations.Readiness.TheVariants.{Ready, NotReady, FileStep}
 use Rattle.kernel_model.specs.Pages.{first_piece}
 use Rattle.kernel_model.specs.declared.ranges.Range.{Range}
-use Rattle.kernel_model.specs.Plans.{Phase, Gather, Act, Scatter, Stream, is_read, is_write, has_path, act_of, most_moved, pread64_call, pwrite64_call}
+use Rattle.kernel_model.specs.CallPhases.{Phase, Gather, Act, Scatter, Stream, act_of, most_moved}
 use Rattle.mck_word.specs.Lists.{tail, before_zero, spliced}
 use Rattle.mck_word.specs.Words.{number_of, refused}
 use Rattle.mck_word.specs.declared.Access.{Access}
@@ -18,11 +18,14 @@ use Rattle.mck_word.specs.declared.Access.TheVariants.{Read, Write}
 use Rattle.mck_word.specs.declared.parts.Piece.{Piece}
 use Rattle.std.specs.List.{list_any}
 use Rattle.std.specs.Prelude.{ℕ, zero, suc, ◌+◌, ◌-◌, ◌^◌, Bool, true, false, cond, ◌||◌, ◌==◌, nat_lt, nat_le, min, List, [], ◌∷◌, ◌++◌, length, take, drop, get_or, filter, Option, Some, None, ℤ, pos, negsuc}
+use Rattle.system_calls.specs.FileCalls.{has_offset, has_path, is_read, is_write}
+use Rattle.system_calls.specs.declared.file_calls.FileCall.{FileCall}
+use Rattle.system_calls.specs.declared.file_calls.FileCall.TheVariants.{Close}
 
 -- The phases left, of which the first is under way; the bytes gathered, or still to be scattered; the bytes moved by the stream; what the act
 -- answered; the description that the first act found, which the call holds.
 pub record Progress : Type 0 where
-  pub number : ℕ
+  pub call : FileCall
   pub arguments : List ℕ
   pub phases : List Phase
   pub buffer : List ℕ
@@ -30,11 +33,11 @@ pub record Progress : Type 0 where
   pub answer : ℤ
   pub found : Option ℕ
 
-abbrev pub starting : ℕ → List ℕ → List Phase → Progress
-starting number arguments phases = record { number = number; arguments = arguments; phases = phases; buffer = []; moved = 0; answer = pos 0; found = None }
+abbrev pub starting : FileCall → List ℕ → List Phase → Progress
+starting call arguments phases = record { call = call; arguments = arguments; phases = phases; buffer = []; moved = 0; answer = pos 0; found = None }
 
 abbrev pub no_progress : Progress
-no_progress = starting 0 [] []
+no_progress = starting Close [] []
 
 -- ---- ranges
 
@@ -69,25 +72,25 @@ has_piece p = nat_lt 0 (length (ranges_left p))
 abbrev pub next_piece : Progress → Piece
 next_piece p = let r = get_or (ranges_left p) 0 (record { address = 0; len = 0 }) in first_piece r.address r.len
 
-abbrev pub access_of_phase : ℕ → Phase → Access
-access_of_phase number (Gather rs) = Read
-access_of_phase number Act = Read
-access_of_phase number (Scatter rs) = Write
-access_of_phase number (Stream rs) = cond (is_read number) Write Read
+abbrev pub access_of_phase : FileCall → Phase → Access
+access_of_phase call (Gather rs) = Read
+access_of_phase call Act = Read
+access_of_phase call (Scatter rs) = Write
+access_of_phase call (Stream rs) = cond (is_read call) Write Read
 
 -- the right that the next piece needs in the process's memory
 abbrev pub needed_access : Progress → Access
-needed_access p = access_of_phase p.number (get_or p.phases 0 Act)
+needed_access p = access_of_phase p.call (get_or p.phases 0 Act)
 
 abbrev pub offset_argument : Progress → Option ℕ
-offset_argument p = cond (p.number == pread64_call || p.number == pwrite64_call) (Some (get_or p.arguments 3 0)) None
+offset_argument p = cond (has_offset p.call) (Some (get_or p.arguments 3 0)) None
 
 abbrev pub description_found : Progress → ℕ
 description_found p = elim p.found [ None ↦ 0 | Some d ↦ d ]
 
 -- the operation of the stream's next piece
 abbrev pub stream_operation : Progress → FileOp
-stream_operation p = cond (is_read p.number)
+stream_operation p = cond (is_read p.call)
     (Get (description_found p) (offset_argument p) p.moved (next_piece p).len)
     (Put (description_found p) (offset_argument p) p.moved (next_piece p).len)
 
@@ -152,7 +155,7 @@ drop_used_up [] = []
 drop_used_up (phase ∷ phases) = cond (is_used_up phase) (drop_used_up phases) (phase ∷ phases)
 
 abbrev pub answer_of : Progress → ℤ
-answer_of p = cond (is_read p.number || is_write p.number) (pos p.moved) p.answer
+answer_of p = cond (is_read p.call || is_write p.call) (pos p.moved) p.answer
 
 -- phases without an act or a byte left are passed over; where none is left the call ends
 abbrev pub settled_progress : Progress → Progress
@@ -198,7 +201,7 @@ abbrev pub gathered : Progress → List Range → Files → List ℕ → Moved
 gathered p ranges files page =
     let piece = next_piece p in
     let q = record p { buffer = p.buffer ++ take piece.len (drop piece.off page) } in
-    stays page (cond (has_path p.number) (gather_path q (advanced piece.len ranges) files) (gather_vectors q (advanced piece.len ranges) files))
+    stays page (cond (has_path p.call) (gather_path q (advanced piece.len ranges) files) (gather_vectors q (advanced piece.len ranges) files))
 
 abbrev pub scattered : Progress → List Range → Files → List ℕ → Moved
 scattered p ranges files page =
@@ -226,7 +229,7 @@ streamed_out p ranges page r = stays page (settle (streamed_on p ranges (nat_of 
 abbrev pub streamed : Progress → List Range → Files → ℕ → List ℕ → Moved
 streamed p ranges files process page =
     let piece = next_piece p in
-    cond (is_read p.number)
+    cond (is_read p.call)
     (streamed_in p ranges files process page (file_step files process (stream_operation p) []))
     (streamed_out p ranges page (file_step files process (stream_operation p) (take piece.len (drop piece.off page))))
 
@@ -250,7 +253,7 @@ with_scatter out phases = phases
 abbrev pub acted : Progress → FileResult → After
 acted p r = elim r.answer [
   | negsuc n ↦ record { progress = p; ended = Some (negsuc n); files = r.files }
-  | pos n ↦ cond (is_read p.number || is_write p.number)
+  | pos n ↦ cond (is_read p.call || is_write p.call)
       (settle (record p { found = Some n; phases = tail p.phases }) r.files)
       (settle (record p { answer = pos n; buffer = r.out; phases = with_scatter r.out (tail p.phases) }) r.files)
 ]
@@ -260,7 +263,7 @@ abbrev pub stream_end : Progress → FileResult → After
 stream_end p r = ends (cond (p.moved == 0) r.answer (pos p.moved)) p r.files
 
 abbrev pub file_step_in : Progress → Files → ℕ → Phase → After
-file_step_in p files process Act = acted p (file_step files process (act_of p.number p.arguments) p.buffer)
+file_step_in p files process Act = acted p (file_step files process (act_of p.call p.arguments) p.buffer)
 file_step_in p files process (Stream rs) = stream_end p (file_step files process (stream_operation p) [])
 file_step_in p files process (Gather rs) = settle p files
 file_step_in p files process (Scatter rs) = settle p files

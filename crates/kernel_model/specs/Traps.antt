@@ -3,16 +3,16 @@
 use Rattle.file_model.specs.Errno.{EINTR, ENOSYS, EPIPE}
 use Rattle.file_model.specs.Files.{close_all}
 use Rattle.isa_model.specs.Instr.{Outcome, instr}
-use Rattle.isa_model.specs.Memory.{Memory}
+use Rattle.isa_model.specs.Memory as memories
 use Rattle.isa_model.specs.Registers.{reg}
 use Rattle.isa_model.specs.declared.stops.Stop.{Stop}
 use Rattle.isa_model.specs.declared.stops.Stop.TheVariants.{On, Ecall}
-use Rattle.kernel_model.specs.Calls.{local_call}
+use Rattle.kernel_model.specs.CallPhases.{phases_of}
+use Rattle.kernel_model.specs.Calls.{clone_call, local_call}
 use Rattle.kernel_model.specs.CloneCalls.{Born, CallDone, Cloned, may_end_wait, wait_over}
 use Rattle.kernel_model.specs.LocalCalls.{answers}
 use Rattle.kernel_model.specs.MemoryCalls.{Decision, Now, Reply, Round, decide}
 use Rattle.kernel_model.specs.Nodes.{Process, ScriptLine, Sleeper, Thread, answered, change_process, change_thread, has_thread, is_dying, is_living, is_stopped, process_of, rests, sent_back, set_does, set_pc, stop_in, thread_of, without_sleeper, without_thread, Node, ready_to_run}
-use Rattle.kernel_model.specs.Plans.{Delegated, Local, Plan, Unknown, Vm, plan}
 use Rattle.kernel_model.specs.Progress.{Progress, starting}
 use Rattle.kernel_model.specs.Signals.{Store, View, generate_for_process, generate_for_thread, is_deliverable, on_node, raised, signal_of_stop}
 use Rattle.kernel_model.specs.declared.Change.{Change}
@@ -24,6 +24,9 @@ use Rattle.mck_word.specs.Maps.{change, collect}
 use Rattle.mck_word.specs.Words.{refused}
 use Rattle.mck_word.specs.declared.Regs.{Regs}
 use Rattle.std.specs.Prelude.{take, drop, Bool, List, None, Option, Some, cond, false, filter, find, nat_le, negsuc, not, pos, ℕ, ℤ, ◌&&◌, ◌+◌, ◌==◌, ◌||◌}
+use Rattle.system_calls.specs.Numbers.{system_call}
+use Rattle.system_calls.specs.declared.SystemCall.{SystemCall}
+use Rattle.system_calls.specs.declared.SystemCall.TheVariants.{Clone, File, Local, Memory}
 
 -- ---- instructions
 
@@ -45,7 +48,7 @@ counted t e node =
 -- a node and the memory of one process
 pub record Ran : Type 0 where
   pub node : Node
-  pub memory : Memory
+  pub memory : memories.Memory
 
 -- one instruction of the thread; the one that stops is counted
 abbrev pub executed : ℕ → Ran → Ran
@@ -70,22 +73,27 @@ decided t v (Round change) = Done (on_node (set_does t (InVm change)) v)
 abbrev pub arguments_of : Regs → List ℕ
 arguments_of r = take 6 (drop 10 r.x)
 
+-- the call that the registers name, by its number in a7
+abbrev pub call_named : Regs → Option SystemCall
+call_named r = system_call (reg r 17)
+
 abbrev pub cloned : Cloned → Trapped
 cloned (CallDone v) = Done v
 cloned (Born v child stores) = Forks v child stores
 
-abbrev pub planned : ℕ → ℕ → Regs → View → Plan → Trapped
-planned t free r v Unknown = Done (answers t (refused ENOSYS) v)
-planned t free r v Local = cloned (local_call t free (reg r 17) (arguments_of r) v)
-planned t free r v Vm = decided t v (decide (process_of v.node (thread_of v.node t).process) v.memory free (reg r 17) (arguments_of r))
-planned t free r v (Delegated phases) = Begins v.node (starting (reg r 17) (arguments_of r) phases)
+abbrev pub called : ℕ → ℕ → Regs → View → Option SystemCall → Trapped
+called t free r v None = Done (answers t (refused ENOSYS) v)
+called t free r v (Some Clone) = cloned (clone_call t free (arguments_of r) v)
+called t free r v (Some (Local call)) = Done (local_call t call (arguments_of r) v)
+called t free r v (Some (Memory call)) = decided t v (decide (process_of v.node (thread_of v.node t).process) v.memory free call (arguments_of r))
+called t free r v (Some (File call)) = Begins v.node (starting call (arguments_of r) (phases_of call (arguments_of r)))
 
 abbrev pub past_ecall : ℕ → View → View
 past_ecall t v = on_node (change_thread t (λ (x : Thread). record x { regs = set_pc (x.regs.pc + 4) x.regs })) v
 
 abbrev pub trap_of_stop : ℕ → ℕ → View → Option Stop → Trapped
 trap_of_stop t free v None = Done v
-trap_of_stop t free v (Some Ecall) = let r = (thread_of v.node t).regs in planned t free r (past_ecall t v) (plan (reg r 17) (arguments_of r))
+trap_of_stop t free v (Some Ecall) = let r = (thread_of v.node t).regs in called t free r (past_ecall t v) (call_named r)
 trap_of_stop t free v (Some stop) = Done (on_node (raised t (signal_of_stop stop)) v)
 
 abbrev pub may_trap : Node → ℕ → Bool

@@ -16,19 +16,20 @@ use crate::{passes, thread_rows};
 use kernel_model::{Action, Does};
 use lwk_signals::has;
 use mck_word::{End, Pid, Tid};
+use system_calls::errors;
 
 /// Whether the answer says that the call was interrupted.
 fn is_eintr(answer: i64) -> bool
     ensures { result ≡ is_error EINTR answer }
 {
-    answer == -4
+    answer == errors::EINTR
 }
 
 /// Whether the answer says that nobody reads the pipe.
 fn is_epipe(answer: i64) -> bool
     ensures { result ≡ is_error EPIPE answer }
 {
-    answer == -32
+    answer == errors::EPIPE
 }
 
 #[tactic(auto, using(crate::proofs::Rows::process_at, crate::proofs::Rows::thread_at))]

@@ -10,7 +10,7 @@ use Rattle.lwk_calls.specs.SignalWords.{action_refusal, asked_action, asked_set,
 use Rattle.lwk_calls.specs.Words.{unless_refused}
 use Rattle.mck_flags.specs.declared.signal_set.SigSet.{SigSet}
 use Rattle.mck_word.specs.Words.{little_endian, number_of, refused}
-use Rattle.std.proofs.Common.{ap, arith, refl, sym, ◌∙◌}
+use Rattle.std.proofs.Common.{arith, refl, sym, ◌∙◌}
 use Rattle.std.proofs.lemmas.Bool.Decides.{nat_tests}
 use Rattle.std.specs.Prelude.{Bool, None, Option, Some, cond, false, nat_le, negsuc, not, pos, true, ℕ, ℤ, ◌&&◌, ◌==◌, ◌||◌, ◌≡◌, ◌≤◌}
 

@@ -1,7 +1,7 @@
 -- kill and tgkill, by what their arguments are.
 use Rattle.file_model.specs.Errno.{EINVAL, ESRCH}
 use Rattle.kernel_model.specs.LocalCalls.{answers, refuses}
-use Rattle.kernel_model.specs.Nodes.{Node, is_there}
+use Rattle.kernel_model.specs.Nodes.{is_there}
 use Rattle.kernel_model.specs.SignalCalls.{checked_signal, has_thread_in, kill, kills, kills_thread, positive, send, tgkill}
 use Rattle.kernel_model.specs.Signals.{View, generate_for_process, generate_for_thread, on_node}
 use Rattle.std.proofs.Common.{ap, arith}

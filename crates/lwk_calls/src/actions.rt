@@ -7,7 +7,7 @@ ghost use Rattle.lwk_space.specs.Rows.{FramesApart, FramesIn};
 ghost use Rattle.lwk_views.specs.Views.{Did, Stepped};
 ghost use Rattle.std.specs.Prelude.{◌≡◌, ◌≤◌, List, length, true, ℕ};
 
-use crate::answering::{EFAULT, EINVAL, answers};
+use crate::answering::answers;
 use crate::pointers::{lacks_access, store_at};
 use frame_mem::FrameMem;
 use kernel_model::Action;
@@ -17,6 +17,7 @@ use lwk_space::Space;
 use lwk_views::read_into;
 use mck_word::{Pid, Tid};
 use page_map::PageTable;
+use system_calls::errors::{EFAULT, EINVAL};
 
 /// Whether the number is a signal's; one whose action is given isn't 9 or 19.
 fn is_signal(signal: i32, act: u64) -> bool

@@ -1,4 +1,4 @@
-// Answers and refusals, and what is read of arguments.
+// Answers, and what is read of arguments.
 ghost use Rattle.kernel_model.specs.LocalCalls.{answers};
 ghost use Rattle.kernel_model.specs.SignalSets.{minus};
 ghost use Rattle.kernel_tables.specs.Room.{KeepsRoom};
@@ -8,19 +8,6 @@ ghost use Rattle.std.specs.Prelude.{◌≡◌, ◌<◌};
 
 use kernel_tables::KernelTables;
 use mck_word::Tid;
-
-// The refusals of the calls: negated error numbers.
-pub const ESRCH: i64 = -3;
-
-pub const ECHILD: i64 = -10;
-
-pub const EAGAIN: i64 = -11;
-
-pub const EFAULT: i64 = -14;
-
-pub const EINVAL: i64 = -22;
-
-pub const ENOSYS: i64 = -38;
 
 /// The thread gets its answer, and is Ready.
 pub fn answers(node: &mut KernelTables, t: Tid, answer: i64)

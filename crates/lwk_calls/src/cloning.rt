@@ -8,13 +8,14 @@ ghost use Rattle.lwk_space.specs.Rows.{FramesApart, FramesIn};
 ghost use Rattle.lwk_views.specs.Views.{Did};
 ghost use Rattle.std.specs.Prelude.{◌≡◌, ◌≤◌, ◌<◌, ◌+◌, ◌-◌, ◌^◌, IsTrue, length, slice_index};
 
-use crate::answering::{EAGAIN, EINVAL, answers, has_bit, minus};
+use crate::answering::{answers, has_bit, minus};
 use crate::numbers::tells_number;
 use frame_mem::FrameMem;
 use kernel_tables::KernelTables;
 use lwk_space::Space;
 use mck_word::Tid;
 use page_map::PageTable;
+use system_calls::errors::{EAGAIN, EINVAL};
 
 const MOST_THREADS: u32 = 16;
 
@@ -26,7 +27,8 @@ const PARENT_SETTID: u32 = 20;
 
 const CHILD_SETTID: u32 = 24;
 
-/// Whether the flags are those of a clone that makes a thread: VM, FS, FILES, SIGHAND and THREAD stand, and nothing unknown.
+/// Whether the flags are those of a clone that makes a thread: VM, FS, FILES, SIGHAND and THREAD stand, and nothing
+/// unknown.
 fn are_clone_flags(flags: u64) -> bool
     ensures { result ≡ are_clone_flags flags }
 {
@@ -78,8 +80,8 @@ fn clones<T: PageTable>(
     node.answered(t, number.0 as i64);
 }
 
-/// clone, where the flags aren't those of a fork: a thread begins beside the caller, by the arguments flags, stack, parent tid, tls and
-/// child tid.
+/// clone, where the flags aren't those of a fork: a thread begins beside the caller, by the arguments flags, stack,
+/// parent tid, tls and child tid.
 pub fn clone<T: PageTable>(
     node: &mut KernelTables,
     space: &Space<T>,

@@ -121,7 +121,8 @@ fn stack_pointer(r: &Regs) -> u64
     r.x[2]
 }
 
-/// rt_sigreturn: the registers and the mask come back from the frame at the stack pointer; where that can't be read, 11 is raised.
+/// rt_sigreturn: the registers and the mask come back from the frame at the stack pointer; where that can't be read,
+/// 11 is raised.
 pub fn return_from_handler<T: PageTable>(
     node: &mut KernelTables,
     space: &Space<T>,

@@ -31,7 +31,8 @@ fn clear_word<T: PageTable>(
     }
 }
 
-/// A thread of the process leaves with the code; where it is the last, the process dies with the code of its first thread.
+/// A thread of the process leaves with the code; where it is the last, the process dies with the code of its first
+/// thread.
 fn leaves(node: &mut KernelTables, t: Tid, p: Pid, code: u8)
     ensures is { Stepped node.old node.new (leaves t.0 p.0 code) }
     ensures room { KeepsRoom node.old node.new }

@@ -14,15 +14,14 @@ ghost use Rattle.lwk_views.specs.Views.{seen};
 ghost use Rattle.mck_word.specs.Words.{has_bit};
 ghost use Rattle.std.specs.Prelude.{◌≡◌, ◌≤◌, ◌<◌, ◌-◌, ◌^◌, IsTrue, length, slice_index};
 
-use crate::answering::{EAGAIN, has_bit, minus};
+use crate::answering::{has_bit, minus};
 use crate::numbers::tells_number;
 use frame_mem::FrameMem;
 use kernel_tables::KernelTables;
 use lwk_space::Space;
 use mck_word::{Pid, Tid};
 use page_map::PageTable;
-
-const ENOMEM: i64 = -12;
+use system_calls::errors::{EAGAIN, ENOMEM};
 
 const MOST_PROCESSES: usize = 1024;
 
@@ -57,8 +56,8 @@ pub fn fork_refusal(processes: usize, free: u64, pages: u64) -> Option<i64>
     }
 }
 
-/// A fork that isn't refused, by the arguments flags, stack, parent tid, tls and child tid: a process and its first thread begin, the
-/// parent is told the number, and the caller is answered it.
+/// A fork that isn't refused, by the arguments flags, stack, parent tid, tls and child tid: a process and its first
+/// thread begin, the parent is told the number, and the caller is answered it.
 pub fn begins_child<T: PageTable>(
     node: &mut KernelTables,
     space: &Space<T>,

@@ -12,15 +12,16 @@ ghost use Rattle.mck_word.specs.Words.{number_of};
 ghost use Rattle.std.specs.List.{list_any};
 ghost use Rattle.std.specs.Prelude.{◌≡◌, ◌≤◌, ◌<◌, ◌==◌, false, length};
 
-use crate::answering::{EAGAIN, EFAULT, EINVAL, ENOSYS, answers, minus};
+use crate::answering::{answers, minus};
 use byteorder::{ByteOrder, LittleEndian};
-use call_plan::arguments::int;
+use call_phases::arguments::int;
 use frame_mem::FrameMem;
 use kernel_tables::KernelTables;
 use lwk_space::Space;
 use lwk_views::read_into;
 use mck_word::Tid;
 use page_map::PageTable;
+use system_calls::errors::{EAGAIN, EFAULT, EINVAL, ENOSYS};
 
 const WAIT: u64 = 0;
 
@@ -48,8 +49,8 @@ fn word_at<T: PageTable>(space: &Space<T>, mem: &FrameMem, address: u64) -> Opti
     }
 }
 
-/// Why a wait at the address is refused: the address is no multiple of four, a timeout is given, the number there can't be read, or it
-/// is another than `val`.
+/// Why a wait at the address is refused: the address is no multiple of four, a timeout is given, the number there
+/// can't be read, or it is another than `val`.
 fn wait_refusal<T: PageTable>(
     space: &Space<T>,
     mem: &FrameMem,
@@ -130,7 +131,8 @@ fn futex_operation(op: u64) -> u64
     minus(op % (1 << 32), PRIVATE)
 }
 
-/// futex: the thread sleeps at the address or wakes others there. It sleeps nowhere itself, and fewer than sixteen sleep there.
+/// futex: the thread sleeps at the address or wakes others there. It sleeps nowhere itself, and fewer than sixteen
+/// sleep there.
 pub fn futex<T: PageTable>(
     node: &mut KernelTables,
     space: &Space<T>,

@@ -10,7 +10,7 @@ ghost use Rattle.mck_word.specs.Words.{little_endian};
 ghost use Rattle.mck_word.specs.declared.Access.TheVariants.{Write};
 ghost use Rattle.std.specs.Prelude.{◌≡◌, ◌≤◌, List, length, true, ℕ};
 
-use crate::answering::{EFAULT, EINVAL, answers};
+use crate::answering::answers;
 use crate::pointers::{lacks_access, store_at};
 use frame_mem::FrameMem;
 use kernel_tables::KernelTables;
@@ -20,6 +20,7 @@ use lwk_views::{read_into, try_store};
 use mck_flags::SigSet;
 use mck_word::Tid;
 use page_map::PageTable;
+use system_calls::errors::{EFAULT, EINVAL};
 
 /// Whether the number says how a mask is changed.
 fn is_how(how: i32) -> bool

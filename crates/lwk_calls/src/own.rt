@@ -6,9 +6,10 @@ ghost use Rattle.kernel_tables.specs.Room.{KeepsRoom};
 ghost use Rattle.lwk_views.specs.Views.{DidAlone};
 ghost use Rattle.std.specs.Prelude.{pos};
 
-use crate::answering::{EINVAL, answers};
+use crate::answering::answers;
 use kernel_tables::KernelTables;
 use mck_word::Tid;
+use system_calls::errors::EINVAL;
 
 /// set_tid_address: the address is cleared when the thread ends, and the answer is the thread's number.
 pub fn sets_clear_address(node: &mut KernelTables, t: Tid, address: u64)

@@ -7,7 +7,7 @@ ghost use Rattle.lwk_space.specs.Rows.{FramesApart, FramesIn};
 ghost use Rattle.lwk_views.specs.Views.{Did, DidAlone};
 ghost use Rattle.std.specs.Prelude.{◌≡◌};
 
-use crate::answering::{ECHILD, EFAULT, EINVAL, ENOSYS, answers, has_bit, minus};
+use crate::answering::{answers, has_bit, minus};
 use crate::numbers::store_number;
 use frame_mem::FrameMem;
 use kernel_model::{Does, Life};
@@ -15,6 +15,7 @@ use kernel_tables::KernelTables;
 use lwk_space::Space;
 use mck_word::{End, Pid, Tid};
 use page_map::PageTable;
+use system_calls::errors::{ECHILD, EFAULT, EINVAL, ENOSYS};
 
 // WNOHANG, WUNTRACED and WCONTINUED.
 const KNOWN_OPTIONS: u64 = 11;

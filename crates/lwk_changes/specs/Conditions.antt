@@ -7,7 +7,7 @@ use Rattle.kernel_model.specs.declared.Change.TheVariants.{Brk, Map as ChangeMap
 use Rattle.lwk_space.specs.Rows.{RoomFor}
 use Rattle.mck_word.specs.declared.PageRange.{PageRange}
 use Rattle.std.specs.Prelude.{List, cond, false, nat_lt, true, ℕ, ◌^◌, ◌≡◌, ◌≤◌}
-use Rattle.vm_calls.specs.Plans.{closes}
+use Rattle.vm_calls.specs.Deciding.{closes}
 use Rattle.vm_calls.specs.declared.VmPlan.{VmPlan}
 use Rattle.vm_calls.specs.declared.VmPlan.TheVariants.{Now as PlanNow, Reply as PlanReply, Round as PlanRound}
 
@@ -46,7 +46,8 @@ pub record RisesBy (m : Memory) (free : ℕ) (r : PageRange) : Type 0 where
   pub absent : count_present m r ≡ 0
   pub enough : pages_count r ≤ free
 
--- what the go-ahead of a call or of the end of its round says: the frames suffice, and a protected range is all present
+-- what the go-ahead of a call or of the end of its round says: the frames suffice, and a protected range is all
+-- present
 abbrev pub GoesAhead : Memory → ℕ → ℕ → Change → Type 0
 GoesAhead m free program_break (ChangeMap r rights) = exceeds m free r ≡ false
 GoesAhead m free program_break (Unmap r) = Unit {0}

@@ -1,6 +1,7 @@
 -- What is decided says what has to hold before the change is made.
 use Rattle.file_model.specs.Errno.{EINVAL, ENOMEM}
 use Rattle.isa_model.specs.Memory.{Memory}
+use Rattle.kernel_model.specs.CallPhases.{argument}
 use Rattle.kernel_model.specs.MemoryCalls.{Reply as DecidedReply, Round as DecidedRound, Decision, Now, all_present, any_lessened, brk, brk_down, brk_up, count_present, decide, exceeds, gap_below, highest_gap, is_aligned, is_fixed, is_inside, low_word, map_anywhere, map_fixed, mmap, most_heap, mprotect, munmap, pages_for, protect_range, range_for, refusal_at_end, refuse, rights_of_prot, round_or_now}
 use Rattle.kernel_model.specs.Nodes.{Process}
 use Rattle.kernel_model.specs.Pages.{page_end, pages_count, range}
@@ -12,7 +13,9 @@ use Rattle.mck_word.specs.Words.{has_bit, refused}
 use Rattle.mck_word.specs.declared.PageRange.{PageRange}
 use Rattle.std.proofs.Common.{arith, refl, subst, sym, ◌∙◌}
 use Rattle.std.proofs.lemmas.Bool.Decides.{nat_tests}
-use Rattle.std.specs.Prelude.{Bool, List, None, Option, Some, cond, false, get_or, nat_lt, not, pos, true, ℕ, ℤ, ◌%◌, ◌&&◌, ◌+◌, ◌-◌, ◌==◌, ◌||◌, ◌≡◌, ◌≤◌}
+use Rattle.std.specs.Prelude.{Bool, List, None, Option, Some, cond, false, nat_lt, not, pos, true, ℕ, ℤ, ◌%◌, ◌&&◌, ◌+◌, ◌-◌, ◌==◌, ◌||◌, ◌≡◌, ◌≤◌}
+use Rattle.system_calls.specs.declared.MemoryCall.{MemoryCall}
+use Rattle.system_calls.specs.declared.MemoryCall.TheVariants as calls
 
 some-unless : (b : Bool) (z : ℤ) → cond b (Some z) None ≡ None → b ≡ false
 some-unless true z e = absurd (grind (arith, e))
@@ -98,16 +101,12 @@ module _ (p : Process) (m : Memory) (free : ℕ) where
             enough = not-below free (pages_count r) s.1;
           })
 
-  says : (number : ℕ) (arguments : List ℕ) → Says (decide p m free number arguments)
-  says number arguments =
-      let a0 = get_or arguments 0 0 in
-      let a1 = get_or arguments 1 0 in
-      let a2 = low_word (get_or arguments 2 0) in
-      let a3 = low_word (get_or arguments 3 0) in
-      says-if (number == 222) (mmap m free a0 a1 a2 a3) (cond (number == 215) (munmap m a0 a1) (cond (number == 226) (mprotect m a0 a1 a2) (brk p m free a0))) (λ e. mmap-says a0 a1 a2 a3)
-      (λ e. says-if (number == 215) (munmap m a0 a1) (cond (number == 226) (mprotect m a0 a1 a2) (brk p m free a0)) (λ f. munmap-says a0 a1)
-      (λ f. says-if (number == 226) (mprotect m a0 a1 a2) (brk p m free a0) (λ g. mprotect-says a0 a1 a2) (λ g. brk-says a0)))
+  says : (call : MemoryCall) (arguments : List ℕ) → Says (decide p m free call arguments)
+  says calls.Mmap arguments = mmap-says (argument arguments 0) (argument arguments 1) (low_word (argument arguments 2)) (low_word (argument arguments 3))
+  says calls.Munmap arguments = munmap-says (argument arguments 0) (argument arguments 1)
+  says calls.Mprotect arguments = mprotect-says (argument arguments 0) (argument arguments 1) (low_word (argument arguments 2))
+  says calls.Brk arguments = brk-says (argument arguments 0)
 
 -- at once
-pub ahead-at-once : (p : Process) (m : Memory) (free number : ℕ) (arguments : List ℕ) (c : Change) → decide p m free number arguments ≡ Now c → GoesAhead m free p.program_break c
-ahead-at-once p m free number arguments c e = subst (Says p m free) e (says p m free number arguments)
+pub ahead-at-once : (p : Process) (m : Memory) (free : ℕ) (call : MemoryCall) (arguments : List ℕ) (c : Change) → decide p m free call arguments ≡ Now c → GoesAhead m free p.program_break c
+ahead-at-once p m free call arguments c e = subst (Says p m free) e (says p m free call arguments)

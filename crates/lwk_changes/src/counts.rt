@@ -4,11 +4,13 @@ ghost use Rattle.kernel_model.specs.MemoryCalls.{any_lessened, count_present, la
 ghost use Rattle.lwk_changes.specs.Shows.{Shows, lessened_in};
 ghost use Rattle.mck_word.specs.Maps.{at};
 ghost use Rattle.std.specs.Prelude.{◌≡◌};
+ghost use Rattle.system_calls.specs.declared.MemoryCall.TheVariants.{Mprotect};
 
 use isa_model::allows;
 use mck_flags::Rights;
 use mck_word::{Access, PageRange};
 use page_map::PageTable;
+use system_calls::MemoryCall;
 
 /// How many pages of the range are present.
 pub fn count_present<T: PageTable>(table: &T, r: &PageRange) -> u64
@@ -52,7 +54,7 @@ fn is_lessened<T: PageTable>(table: &T, page: u64, rights: Rights) -> bool
 }
 
 /// Whether a page of the range would lose a right.
-pub fn lessens_any<T: PageTable>(table: &T, r: &PageRange, rights: Rights) -> bool
+fn lessens_any<T: PageTable>(table: &T, r: &PageRange, rights: Rights) -> bool
     ensures { (m : Memory) → Shows (T.rows table.now) m → result ≡ any_lessened m r.now rights }
 {
     let mut from = r.lo;
@@ -66,6 +68,21 @@ pub fn lessens_any<T: PageTable>(table: &T, r: &PageRange, rights: Rights) -> bo
         from = page + 1;
     }
     false
+}
+
+/// Whether the call is an mprotect by which a page of the range would lose a right.
+pub fn call_lessens<T: PageTable>(
+    table: &T,
+    call: MemoryCall,
+    r: &PageRange,
+    rights: Rights,
+) -> bool
+    ensures { (m : Memory) → Shows (T.rows table.now) m → call ≡ Mprotect → result ≡ any_lessened m r.now rights }
+{
+    match call {
+        MemoryCall::Mprotect => lessens_any(table, r, rights),
+        MemoryCall::Mmap | MemoryCall::Munmap | MemoryCall::Brk => false,
+    }
 }
 
 /// The rights of PROT bits: a page with the write right also has the read right.

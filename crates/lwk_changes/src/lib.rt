@@ -1,9 +1,11 @@
-//! The memory calls of a process over its space: what one decides, what is decided again at the end of a round, and its change.
+//! The memory calls of a process over its space: what one decides, what is decided again at the end of a round, and
+//! its change.
 //!
-//! Promises: `decide` is `decide` of the definitions and `finish` is `refusal_at_end` (kernel_model's specs/MemoryCalls), for each process
-//! with the given break and heap's base, and the memory that its table shows; `make` leaves the space, the frames and the free ones as
-//! `after_effect` of hybrid_model's specs/Spaces does. Pages are counted and compared in one walk over those that are present. No call
-//! but `make_room_for` takes memory or fails. What has to hold before a change stands in specs/Conditions.
+//! Promises: `decide` is `decide` of the definitions and `finish` is `refusal_at_end` (kernel_model's
+//! specs/MemoryCalls), for each process with the given break and heap's base, and the memory that its table shows;
+//! `make` leaves the space, the frames and the free ones as `after_effect` of hybrid_model's specs/Spaces does. Pages
+//! are counted and compared in one walk over those that are present. No call but `make_room_for` takes memory or
+//! fails. What has to hold before a change stands in specs/Conditions.
 #![tactic(auto)]
 
 mod changes;
@@ -22,12 +24,12 @@ ghost use Rattle.std.specs.Prelude.{◌≡◌, ◌<◌, ◌≤◌, ◌^◌, ℕ,
 ghost use Rattle.vm_calls.specs.Facts.{Describes, DescribesAtEnd, decision, refusal};
 
 pub use changes::{make, make_room_for};
-use counts::{count_present, lessens_any, rights_of};
+use counts::{call_lessens, count_present, rights_of};
 use gaps::gap_for;
-use ikc_ring::Call;
 use kernel_model::Change;
 use lwk_space::Space;
 use page_map::PageTable;
+use system_calls::MemoryCall;
 use vm_calls::{AtEnd, Facts, VmPlan, call_range, change_range};
 
 /// What the call has to know of the process's memory.
@@ -36,23 +38,24 @@ pub fn facts_for_call<T: PageTable>(
     brk: u64,
     base: u64,
     free: u64,
-    call: &Call,
+    call: MemoryCall,
+    args: &[u64; 6],
 ) -> Facts
     ensures brk { result.brk ≡ brk }
     ensures base { result.base ≡ base }
     ensures free { result.free ≡ free }
     ensures gap { ForSome result.gap (λ low. low < 2 ^ 52) }
-    ensures describes { (p : Process) (m : Memory) (pages : List (List ℕ)) → brk ≡ p.program_break → base ≡ p.heap_base → m ≡ memory (T.rows own.now.table) pages → Describes result call.now.number call.now.args p m }
+    ensures describes { (p : Process) (m : Memory) (pages : List (List ℕ)) → brk ≡ p.program_break → base ≡ p.heap_base → m ≡ memory (T.rows own.now.table) pages → Describes result call args.now p m }
 {
-    let range = call_range(brk, call);
-    let rights = rights_of(call.args[2] % (1 << 32));
+    let range = call_range(brk, call, args);
+    let rights = rights_of(args[2] % (1 << 32));
     Facts {
         brk,
         base,
         free,
-        gap: gap_for(own, free, call),
+        gap: gap_for(own, free, call, args),
         present: count_present(own.table(), &range),
-        lessens: call.number == 226 && lessens_any(own.table(), &range, rights),
+        lessens: call_lessens(own.table(), call, &range, rights),
     }
 }
 
@@ -78,15 +81,23 @@ pub fn facts_at_end<T: PageTable>(
     }
 }
 
-/// What a call decides, and that its change fits. A call of another number than 215, 222 and 226 is a brk.
-pub fn decide<T: PageTable>(own: &Space<T>, brk: u64, base: u64, free: u64, call: &Call) -> VmPlan
+/// What a call decides, and that its change fits.
+pub fn decide<T: PageTable>(
+    own: &Space<T>,
+    brk: u64,
+    base: u64,
+    free: u64,
+    call: MemoryCall,
+    args: &[u64; 6],
+) -> VmPlan
     requires small { brk < 2 ^ 63 }
     requires heap { base ≤ highest }
     ensures closing { ClosesBy base result }
     ensures fits { DecisionFits (decision result) }
-    ensures decides { (p : Process) (m : Memory) (pages : List (List ℕ)) → brk ≡ p.program_break → base ≡ p.heap_base → m ≡ memory (T.rows own.now.table) pages → decision result ≡ decide p m free call.now.number call.now.args }
+    ensures decides { (p : Process) (m : Memory) (pages : List (List ℕ)) → brk ≡ p.program_break → base ≡ p.heap_base → m ≡ memory (T.rows own.now.table) pages → decision result ≡ decide p m free call args.now }
 {
-    vm_calls::decide(&facts_for_call(own, brk, base, free, call), call)
+    let facts = facts_for_call(own, brk, base, free, call, args);
+    vm_calls::decide(&facts, call, args)
 }
 
 /// What is decided at the end of a round over a change.

@@ -6,7 +6,6 @@ use Rattle.hybrid_laws.proofs.memory.Effects.{own-apart}
 use Rattle.hybrid_laws.specs.OneProcess.{FramesOf}
 use Rattle.hybrid_laws.proofs.memory.NewSide.{no-at}
 use Rattle.hybrid_laws.proofs.reap.Reap.{count-each, each-none}
-use Rattle.hybrid_laws.proofs.maps.Tests.{both}
 use Rattle.hybrid_model.specs.Globals.{Rising}
 use Rattle.hybrid_model.specs.OneProcess.{memory_here, ran_last, space_here, view_here, with_view}
 use Rattle.hybrid_model.specs.Trap.{after_trap, child_space, trapped, with_child, with_stores}
@@ -15,22 +14,21 @@ use Rattle.hybrid_model.specs.Sides.{Row}
 use Rattle.hybrid_model.specs.Spaces.{Space, copied_pages, shown_memory, shown_row, written_back}
 use Rattle.hybrid_model.specs.Tallies.{Reads}
 use Rattle.ikc_channel.specs.declared.Channel.{Channel}
-use Rattle.isa_model.specs.Memory.{Memory, may_access, write_bytes}
-use Rattle.isa_model.specs.Registers.{reg}
+use Rattle.isa_model.specs.Memory as memories
+use Rattle.isa_model.specs.Memory.{may_access, write_bytes}
 use Rattle.isa_model.specs.declared.stops.Stop.{Stop}
 use Rattle.isa_model.specs.declared.stops.Stop.TheVariants.{Break, Ecall, Fault, Illegal, Misaligned, On}
-use Rattle.kernel_model.specs.Calls.{local_call}
-use Rattle.kernel_model.specs.CloneCalls.{CallDone, are_fork_flags, child_stores, fork, forks}
+use Rattle.kernel_model.specs.Calls.{clone_call}
+use Rattle.kernel_model.specs.CloneCalls.{CallDone, child_stores, fork, forks}
 use Rattle.kernel_model.specs.LocalCalls.{answers, refuses}
 use Rattle.kernel_model.specs.Nodes.{most_processes, stop_in, thread_of}
-use Rattle.kernel_model.specs.Plans.{plan}
 use Rattle.kernel_model.specs.Signals.{Store, View, stored_all}
-use Rattle.kernel_model.specs.Traps.{Forks, Trapped, arguments_of, cloned, past_ecall, planned, trap, trap_of_stop}
+use Rattle.kernel_model.specs.Traps.{Forks, Trapped, arguments_of, call_named, called, cloned, past_ecall, trap, trap_of_stop}
 use Rattle.lwk_calls.specs.Forks.{fork_refusal}
 use Rattle.lwk_calls.specs.Words.{told}
 use Rattle.kernel_tables.specs.Shown.{node_of}
 use Rattle.kernel_tables.specs.declared.tables.KernelTables.{KernelTables}
-use Rattle.lwk_side.specs.Cloning.{calls_fork, forks_at, names_fork}
+use Rattle.lwk_side.specs.Cloning.{calls_fork, forks_at, is_fork}
 use Rattle.lwk_side.specs.Forked.{born_side}
 use Rattle.lwk_side.specs.Shown.{Rest, here_of}
 use Rattle.lwk_side.specs.declared.kernel.Lwk.{Lwk}
@@ -46,20 +44,21 @@ use Rattle.mck_word.specs.declared.Regs.{Regs}
 use Rattle.std.proofs.Common.{ap, arith, refl, sym, ◌∙◌, ◌≡◌}
 use Rattle.std.proofs.lemmas.Bool.Decides.{nat_tests}
 use Rattle.std.specs.Prelude.{Bool, List, None, Option, Some, [], cond, false, get_or, if◌then◌else◌, length, nat_le, nat_lt, true, ℕ, ℤ, ◌&&◌, ◌∷◌, ◌==◌, ◌≤◌}
+use Rattle.system_calls.specs.declared.SystemCall.{SystemCall}
+use Rattle.system_calls.specs.declared.SystemCall.TheVariants.{Clone, File, Local, Memory}
 
 -- ---- the trap
 module _ (t free : ℕ) (r : Regs) where
   abbrev a : ℕ → ℕ
   a k = get_or (arguments_of r) k 0
 
-  by-number : (v : View) → names_fork r ≡ true → planned t free r v (plan (reg r 17) (arguments_of r)) ≡ cloned (fork t free (a 0) (a 1) (a 2) (a 3) (a 4) v)
-  unfolding local_call
-  by-number v e =
-      let x = both (reg r 17 == 220) (are_fork_flags (a 0)) e in
-      let n : reg r 17 ≡ 220 = grind (arith, nat_tests, x.0) in
-      let f = x.0 in
-      let g = x.1 in
-      ap (λ k. planned t free r v (plan k (arguments_of r))) n ∙ rw (f, g) refl
+  by-call : (v : View) (o : Option SystemCall) → is_fork o (a 0) ≡ true → called t free r v o ≡ cloned (fork t free (a 0) (a 1) (a 2) (a 3) (a 4) v)
+  unfolding clone_call
+  by-call v None e = absurd (grind (arith, e))
+  by-call v (Some Clone) e = rw e refl
+  by-call v (Some (Local call)) e = absurd (grind (arith, e))
+  by-call v (Some (Memory call)) e = absurd (grind (arith, e))
+  by-call v (Some (File call)) e = absurd (grind (arith, e))
 
 module _ (p t : ℕ) (h : Here) where
   abbrev regs : Regs
@@ -75,7 +74,7 @@ module _ (p t : ℕ) (h : Here) where
   by-stop (Some Illegal) e = absurd (grind (arith, e))
   by-stop (Some Misaligned) e = absurd (grind (arith, e))
   by-stop (Some (Fault l)) e = absurd (grind (arith, e))
-  by-stop (Some Ecall) e = by-number t (length h.free) regs (past_ecall t (view_here h)) e
+  by-stop (Some Ecall) e = by-call t (length h.free) regs (past_ecall t (view_here h)) (call_named regs) e
 
   pub fork-trap : calls_fork h.node t ≡ true → ran_last t (trapped p t (cloned (fork t (length h.free) (b 0) (b 1) (b 2) (b 3) (b 4) (past_ecall t (view_here h)))) h) ≡ after_trap p t h
   unfolding after_trap trap
@@ -133,14 +132,14 @@ module _ (frames : Map (List ℕ)) (free : List ℕ) (rising : Rising free) wher
       none q i r true e = no-at i r e
       none q i r false e = grind (arith, e)
 
-  pub copied-shown : (m : Memory) → length (entries m) ≤ length free → shown_memory (copied_pages (entries m) empty).table (copied_pages (entries m) empty).frames ≡ m
+  pub copied-shown : (m : memories.Memory) → length (entries m) ≤ length free → shown_memory (copied_pages (entries m) empty).table (copied_pages (entries m) empty).frames ≡ m
   copied-shown m enough = shown_copied nobody 0 (entries m) empty enough empty-frames ∙ ap (put_all (entries m)) (each-none (shown_row frames) no_rows (λ i. at-none i)) ∙ put_all-entries m
 
-  pub copied-apart : (m : Memory) → length (entries m) ≤ length free → (i j : ℕ) (r s : Row) → at (copied_pages (entries m) empty).table i ≡ Some r → at (copied_pages (entries m) empty).table j ≡ Some s → r.0.0 ≡ s.0.0 → i ≡ j
+  pub copied-apart : (m : memories.Memory) → length (entries m) ≤ length free → (i j : ℕ) (r s : Row) → at (copied_pages (entries m) empty).table i ≡ Some r → at (copied_pages (entries m) empty).table j ≡ Some s → r.0.0 ≡ s.0.0 → i ≡ j
   copied-apart m enough = own-apart nobody 0 (copied_pages (entries m) empty) (frames_copied nobody 0 (entries m) empty enough empty-frames)
 
 -- ---- the child's own store
-pub child-told : (child flags child_tid : ℕ) (m before after : Memory) → may_access before Write child_tid 4 ≡ may_access m Write child_tid 4 → after ≡ told (has_bit 24 flags) child_tid child before → after ≡ stored_all (child_stores child flags child_tid m) before
+pub child-told : (child flags child_tid : ℕ) (m before after : memories.Memory) → may_access before Write child_tid 4 ≡ may_access m Write child_tid 4 → after ≡ told (has_bit 24 flags) child_tid child before → after ≡ stored_all (child_stores child flags child_tid m) before
 child-told child flags child_tid m before after same e = e ∙ go (has_bit 24 flags) (may_access before Write child_tid 4) (may_access m Write child_tid 4) same
   where
     go : (x y z : Bool) → y ≡ z → cond x (cond y (write_bytes before child_tid (little_endian 4 child)) before) before ≡ stored_all (cond (x && z) (record { address = child_tid; bytes = little_endian 4 child } ∷ []) []) before

@@ -1,6 +1,6 @@
 -- A clone by a thread behind its ecall, and what it comes to.
-use Rattle.kernel_model.specs.CloneCalls.{clone}
-use Rattle.kernel_model.specs.Calls.{local_call}
+use Rattle.kernel_model.specs.CloneCalls.{are_fork_flags, clone}
+use Rattle.kernel_model.specs.Calls.{clone_call}
 use Rattle.kernel_model.specs.Nodes.{Node as KernelNode, Thread, has_thread}
 use Rattle.kernel_model.specs.Signals.{View}
 use Rattle.kernel_model.specs.Traps.{Done, cloned}
@@ -8,12 +8,11 @@ use Rattle.kernel_tables.specs.Room.{KeepsRoom}
 use Rattle.kernel_tables.specs.Shown.{node_of}
 use Rattle.kernel_tables.specs.declared.tables.KernelTables.{KernelTables}
 use Rattle.lwk_side.proofs.Behind.{at-itself, behind, past}
-use Rattle.lwk_side.specs.Cloning.{MayClone, is_fork}
+use Rattle.lwk_side.specs.Cloning.{MayClone}
 use Rattle.lwk_views.specs.Views.{Stepped}
 use Rattle.mck_word.specs.Maps.{at}
 use Rattle.std.proofs.Common.{ap, arith, refl, subst, sym, ◌∙◌, ◌≡◌}
-use Rattle.std.proofs.lemmas.Bool.Decides.{nat_tests}
-use Rattle.std.specs.Prelude.{List, None, Option, Some, false, get_or, is_some, option_map, true, ℕ, ◌-◌, ◌<◌, ◌==◌, ◌^◌}
+use Rattle.std.specs.Prelude.{List, None, Option, Some, false, get_or, is_some, option_map, ℕ, ◌-◌, ◌<◌, ◌^◌}
 
 still-there : (o : Option Thread) → is_some (option_map past o) ≡ is_some o
 still-there None = refl
@@ -30,10 +29,7 @@ may-clone before after t room step h = record {
 }
 
 -- a clone that is no fork is done
-pub clone-done : (t free number : ℕ) (arguments : List ℕ) (v : View) → number ≡ 220 → is_fork number (get_or arguments 0 0) ≡ false
-    → cloned (local_call t free number arguments v) ≡ Done (clone t (get_or arguments 0 0) (get_or arguments 1 0) (get_or arguments 2 0) (get_or arguments 3 0) (get_or arguments 4 0) v)
-unfolding local_call
-clone-done t free number arguments v is other =
-    let a : (number == 220) ≡ true = grind (arith, nat_tests, is) in
-    let b = rw a at other in
-    rw (a, b) refl
+pub clone-done : (t free : ℕ) (arguments : List ℕ) (v : View) → are_fork_flags (get_or arguments 0 0) ≡ false
+    → cloned (clone_call t free arguments v) ≡ Done (clone t (get_or arguments 0 0) (get_or arguments 1 0) (get_or arguments 2 0) (get_or arguments 3 0) (get_or arguments 4 0) v)
+unfolding clone_call
+clone-done t free arguments v other = rw other refl

@@ -1,21 +1,21 @@
--- Traps by their stops and plans.
+-- Traps by their stops and calls.
 use Rattle.hybrid_model.specs.OneProcess.{ran_last, view_here}
 use Rattle.hybrid_model.specs.Trap.{after_trap, trapped}
 use Rattle.hybrid_model.specs.Pairs.{Here}
 use Rattle.kernel_model.specs.Nodes.{stop_in, thread_of}
 use Rattle.kernel_model.specs.Calls.{local_call, one_of_calls}
 use Rattle.kernel_model.specs.Signals.{View, on_node, raised, signal_of_stop}
-use Rattle.kernel_model.specs.Traps.{Done, cloned, trap, trap_of_stop}
+use Rattle.kernel_model.specs.Traps.{Done, trap, trap_of_stop}
 use Rattle.isa_model.specs.declared.stops.Stop.{Stop}
 use Rattle.isa_model.specs.declared.stops.Stop.TheVariants.{Break, Ecall, Fault, Illegal, Misaligned, On}
 use Rattle.std.proofs.Common.{ap, arith, refl, sym, ◌≡◌}
-use Rattle.std.specs.Prelude.{List, Option, Some, false, get_or, length, true, ℕ, ◌==◌, ◌≤◌}
+use Rattle.std.specs.Prelude.{List, Option, Some, false, get_or, length, true, ℕ}
+use Rattle.system_calls.specs.declared.LocalCall.{LocalCall}
 
--- a local call that is no clone is done
-pub local-done : (t free number : ℕ) (arguments : List ℕ) (v : View) → (number == 220) ≡ false
-    → cloned (local_call t free number arguments v) ≡ Done (one_of_calls t number (λ k. get_or arguments k 0) v)
+-- a local call, by its arguments
+pub local-done : (t : ℕ) (call : LocalCall) (arguments : List ℕ) (v : View) → one_of_calls t call (λ k. get_or arguments k 0) v ≡ local_call t call arguments v
 unfolding local_call
-local-done t free number arguments v other = rw other refl
+local-done t call arguments v = refl
 
 -- a stop that is no call raises its signal
 pub raises-signal : (t free : ℕ) (v : View) (stop : Stop) → (stop ≡ Ecall → false ≡ true) → trap_of_stop t free v (Some stop) ≡ Done (on_node (raised t (signal_of_stop stop)) v)

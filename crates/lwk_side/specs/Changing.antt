@@ -12,6 +12,7 @@ use Rattle.lwk_changes.specs.Conditions.{GoesAhead, HasRoomFor}
 use Rattle.mck_word.specs.declared.PageRange.{PageRange}
 use Rattle.mck_word.specs.declared.Tid.{Tid}
 use Rattle.std.specs.Prelude.{Bool, List, None, Option, Some, false, option_map, true, unwrap_or, ℕ, ℤ, ◌+◌, ◌≤◌}
+use Rattle.system_calls.specs.declared.MemoryCall.{MemoryCall}
 
 -- a heap begins where an image may end, or below, and no break is above its limit
 pub record HeapFits (x : Process) : Type 0 where
@@ -19,10 +20,10 @@ pub record HeapFits (x : Process) : Type 0 where
   pub limit : x.program_break ≤ x.heap_base + most_heap
 
 -- what a memory call of the thread comes to, behind its ecall, with so many frames free
-abbrev pub memory_call : ℕ → ℕ → ℕ → List ℕ → View → Trapped
-memory_call t free number arguments v =
+abbrev pub memory_call : ℕ → ℕ → MemoryCall → List ℕ → View → Trapped
+memory_call t free call arguments v =
     let w = past_ecall t v in
-    decided t w (decide (process_of w.node (thread_of w.node t).process) w.memory free number arguments)
+    decided t w (decide (process_of w.node (thread_of w.node t).process) w.memory free call arguments)
 
 -- a change that is made at once may go ahead
 abbrev pub IsAhead : Memory → ℕ → ℕ → Decision → Type 0

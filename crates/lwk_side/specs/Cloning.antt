@@ -1,23 +1,25 @@
 -- Which calls are forks, and what a clone needs of the node.
 use Rattle.file_model.specs.Files.{Files}
-use Rattle.isa_model.specs.Registers.{reg}
 use Rattle.isa_model.specs.declared.stops.Stop.{Stop}
 use Rattle.isa_model.specs.declared.stops.Stop.TheVariants.{Ecall}
 use Rattle.kernel_model.specs.CloneCalls.{are_fork_flags}
 use Rattle.kernel_model.specs.Nodes.{Node as KernelNode, has_thread, stop_in, thread_of}
-use Rattle.kernel_model.specs.Traps.{arguments_of}
+use Rattle.kernel_model.specs.Traps.{arguments_of, call_named}
 use Rattle.kernel_tables.specs.Shown.{node_of}
 use Rattle.kernel_tables.specs.declared.tables.KernelTables.{KernelTables}
 use Rattle.mck_word.specs.declared.Regs.{Regs}
-use Rattle.std.specs.Prelude.{Bool, Option, Some, false, get_or, true, ℕ, ◌&&◌, ◌-◌, ◌<◌, ◌==◌, ◌^◌, ◌≡◌, ◌≤◌}
+use Rattle.std.specs.Prelude.{Bool, Option, Some, false, get_or, true, ℕ, ◌-◌, ◌<◌, ◌^◌, ◌≡◌, ◌≤◌}
+use Rattle.system_calls.specs.declared.SystemCall.{SystemCall}
+use Rattle.system_calls.specs.declared.SystemCall.TheVariants.{Clone}
 
--- a call of that number with those flags is a fork
-abbrev pub is_fork : ℕ → ℕ → Bool
-is_fork number flags = number == 220 && are_fork_flags flags
+-- a clone with those flags is a fork
+abbrev pub is_fork : Option SystemCall → ℕ → Bool
+is_fork (Some Clone) flags = are_fork_flags flags
+is_fork _ flags = false
 
 -- the call that the registers name is a fork
 abbrev pub names_fork : Regs → Bool
-names_fork r = is_fork (reg r 17) (get_or (arguments_of r) 0 0)
+names_fork r = is_fork (call_named r) (get_or (arguments_of r) 0 0)
 
 abbrev pub forks_at : Regs → Option Stop → Bool
 forks_at r (Some Ecall) = names_fork r

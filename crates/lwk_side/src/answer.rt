@@ -36,8 +36,8 @@ pub fn answer_to<T: PageTable>(task: &Task<T>, channel: &Channel, w: u32) -> Opt
 
 #[tactic(auto, unfolding(hybrid_model::specs::Answer::post_answer))]
 impl Lwk {
-    /// The noted fault of a worker is answered, in the ring of the thread `t` whose request it serves. An empty answer ends the call, whose
-    /// description is to be given back beside this.
+    /// The noted fault of a worker is answered, in the ring of the thread `t` whose request it serves. An empty answer
+    /// ends the call, whose description is to be given back beside this.
     pub fn give_answer<T: PageTable>(
         &self,
         task: &mut Task<T>,

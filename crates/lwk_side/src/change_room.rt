@@ -1,10 +1,8 @@
 // Room for the changes of memory that a trap or the end of a round makes.
 ghost use Rattle.file_model.specs.Files.{Files};
-ghost use Rattle.isa_model.specs.Registers.{reg};
 ghost use Rattle.kernel_model.specs.MemoryCalls.{refusal_at_end};
 ghost use Rattle.kernel_model.specs.Nodes.{change_in, process_of, stop_in, thread_of};
-ghost use Rattle.kernel_model.specs.Plans as plans;
-ghost use Rattle.kernel_model.specs.Traps.{arguments_of as arguments_in, past_ecall, planned, trap};
+ghost use Rattle.kernel_model.specs.Traps.{call_named, called, past_ecall, trap};
 ghost use Rattle.kernel_tables.specs.Shown.{node_of};
 ghost use Rattle.lwk_side.specs.Changing.{HasAckRoom, HasDecidedRoom, HasEndRoom, HasTrappedRoom, HeapFits, changing_in, is_ecall};
 ghost use Rattle.lwk_space.specs.Lacks.{memory};
@@ -16,14 +14,14 @@ ghost use Rattle.vm_calls.specs.Facts.{decision};
 use crate::intake_ack::changing_thread;
 use crate::kernel::Lwk;
 use crate::task::Task;
-use crate::trap_local::{arguments_of, call_number};
-use call_plan::{Plan, plan};
 use isa_model::Stop;
 use kernel_model::{Change, Does};
+use kernel_tables::{arguments_of, call_named};
 use lwk_changes::make_room_for;
 use lwk_space::Space;
 use mck_word::{NoMemory, Pid, Regs, Tid};
 use page_map::PageTable;
+use system_calls::SystemCall;
 use vm_calls::{AtEnd, VmPlan};
 
 /// Whether a thread that does so stands on an ecall.
@@ -64,20 +62,22 @@ impl Lwk {
         ensures same { T.rows task.new.space.table ≡ T.rows task.old.space.table }
         ensures others { task.new ≡ record task.old { space = task.new.space } }
         ensures room { OnOk result ((files : Files) → HasTrappedRoom (T.has_room task.new.space.table) task.new.space.areas.spare p.0
-            (planned t.0 (length self.now.pool.free) regs.now (past_ecall t.0 (seen (T.rows task.new.space.table) self.now.node self.now.frames files)) (plans.plan (reg regs.now 17) (arguments_in regs.now)))) }
+            (called t.0 (length self.now.pool.free) regs.now (past_ecall t.0 (seen (T.rows task.new.space.table) self.now.node self.now.frames files)) (call_named regs.now))) }
     {
-        let number = call_number(regs);
-        let args = arguments_of(regs);
-        match plan(number, &args) {
-            Plan::Memory => {
-                let planned = self.plans_memory_call(&task.space, p, t, number, &args);
-                self.make_planned_room(&mut task.space, p, &planned)
+        let Some(call) = call_named(regs) else {
+            return Ok(());
+        };
+        match call {
+            SystemCall::Memory(call) => {
+                let plan = self.plans_memory_call(&task.space, p, call, &arguments_of(regs));
+                self.make_planned_room(&mut task.space, p, &plan)
             }
-            Plan::Unknown | Plan::Local | Plan::Delegated(_) => Ok(()),
+            SystemCall::Clone | SystemCall::Local(_) | SystemCall::File(_) => Ok(()),
         }
     }
 
-    /// Makes room for the change that the trap of the thread makes at once, where it makes one. What is shown stays, also where memory lacks.
+    /// Makes room for the change that the trap of the thread makes at once, where it makes one. What is shown stays,
+    /// also where memory lacks.
     pub fn make_trap_room<T: PageTable>(
         &self,
         task: &mut Task<T>,
@@ -117,7 +117,8 @@ impl Lwk {
         }
     }
 
-    /// Makes room for the change of the round under way, where it isn't refused at its end. What is shown stays, also where memory lacks.
+    /// Makes room for the change of the round under way, where it isn't refused at its end. What is shown stays, also
+    /// where memory lacks.
     pub fn make_ack_room<T: PageTable>(&self, task: &mut Task<T>, p: Pid) -> Result<(), NoMemory>
         requires heap { (files : Files) → HeapFits (process_of (node_of self.now.node files) p.0) }
         requires fits { (files : Files) → NodeFits (node_of self.now.node files) }

@@ -15,8 +15,8 @@ use mck_word::Pid;
 use page_map::PageTable;
 
 impl Lwk {
-    /// The message at the head of the ring is taken: a reply, a fault of one of the four workers, or the acknowledgement of a round. No other
-    /// message stands in this ring.
+    /// The message at the head of the ring is taken: a reply, a fault of one of the four workers, or the
+    /// acknowledgement of a round. No other message stands in this ring.
     pub fn intake<T: PageTable>(&mut self, p: Pid, task: &mut Task<T>, channel: &mut Channel)
         requires callers { CallersFit task.old.callers.map }
         requires first { is_first_taken channel.old.to_lwk.items ≡ true }

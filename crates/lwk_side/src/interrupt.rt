@@ -16,8 +16,8 @@ use page_map::PageTable;
 
 #[tactic(auto, using(mck_word::specs::EachLaws::each_maps), unfolding(hybrid_model::specs::Interrupt::post_interrupt))]
 impl Lwk {
-    /// Whether the thread may be interrupted: its call isn't marked, and a signal is deliverable or its process dies; or a signal is
-    /// deliverable while it sleeps or waits.
+    /// Whether the thread may be interrupted: its call isn't marked, and a signal is deliverable or its process dies;
+    /// or a signal is deliverable while it sleeps or waits.
     pub fn may_interrupt<T: PageTable>(&self, task: &Task<T>, channel: &Channel, t: Tid) -> bool
         ensures { (r : Rest) → result ≡ may_interrupt t.0 (here_of self.now (T.rows task.now.space.table) task.now channel.now r) }
     {

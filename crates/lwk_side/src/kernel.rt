@@ -56,7 +56,8 @@ impl Last {
     }
 }
 
-/// The lightweight kernel: its tables, the frames and the free ones, the last thread of each core, and how many cores and rings there are.
+/// The lightweight kernel: its tables, the frames and the free ones, the last thread of each core, and how many cores
+/// and rings there are.
 #[derive(Drop)]
 pub struct Lwk {
     pub node: KernelTables,

@@ -1,7 +1,8 @@
 //! The lightweight kernel's events, on one process with what all share.
 //!
-//! Promises: each event has a file of its name and is what hybrid_model's file of that name says, on the state that the kernel, what it keeps of the
-//! process and the channel show (specs/Shown, `here_of`), whatever the parts are that it isn't handed. What takes memory has its room made before.
+//! Promises: each event has a file of its name and is what hybrid_model's file of that name says, on the state that
+//! the kernel, what it keeps of the process and the channel show (specs/Shown, `here_of`), whatever the parts are that
+//! it isn't handed. What takes memory has its room made before.
 #![tactic(auto)]
 
 mod answer;

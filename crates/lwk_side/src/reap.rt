@@ -15,7 +15,8 @@ use std::alloc::Global;
 
 #[tactic(auto, unfolding(hybrid_model::specs::Reap::reap))]
 impl Lwk {
-    /// Whether the process may be Ended: it dies, none of its threads has a call, no round is under way, and no message is in its rings.
+    /// Whether the process may be Ended: it dies, none of its threads has a call, no round is under way, and no
+    /// message is in its rings.
     pub fn may_reap<T: PageTable>(&self, task: &Task<T>, channel: &Channel, p: Pid) -> bool
         ensures { (r : Rest) → result ≡ may_reap p.0 (here_of self.now (T.rows task.now.space.table) task.now channel.now r) }
     {
@@ -25,7 +26,8 @@ impl Lwk {
             && channel.to_lwk.head().is_none()
     }
 
-    /// The process is Ended: its pages go, and their frames come free. Its mirror is to be emptied and its descriptors closed beside this.
+    /// The process is Ended: its pages go, and their frames come free. Its mirror is to be emptied and its descriptors
+    /// closed beside this.
     pub fn reap<T: PageTable>(&mut self, alloc: Global, task: &mut Task<T>, p: Pid)
         requires sound { IsSound self.old (T.rows task.old.space.table) }
         ensures event { (c : channels) (r : Rest) → here_of self.new (T.rows task.new.space.table) task.new c (reaped p.0 r)

@@ -32,7 +32,8 @@ fn does_after(stop: Stop) -> Does
 }
 
 impl Lwk {
-    /// The thread executes at most `most` instructions, up to and with the first that stops, and their number is answered.
+    /// The thread executes at most `most` instructions, up to and with the first that stops, and their number is
+    /// answered.
     pub fn run<T: PageTable>(
         &mut self,
         task: &Task<T>,

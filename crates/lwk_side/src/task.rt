@@ -73,8 +73,8 @@ pub struct Caller {
     pub marked: bool,
 }
 
-/// What the lightweight kernel keeps of one process: its space, the noted faults by worker, how many rounds were begun, the thread to which
-/// the round under way belongs, and the calls of its threads by thread number.
+/// What the lightweight kernel keeps of one process: its space, the noted faults by worker, how many rounds were
+/// begun, the thread to which the round under way belongs, and the calls of its threads by thread number.
 #[derive(Drop)]
 pub struct Task<T: PageTable> {
     pub space: Space<T>,

@@ -4,16 +4,14 @@ ghost use Rattle.file_model.specs.Files.{Files};
 ghost use Rattle.hybrid_model.specs.OneProcess.{view_here, with_view};
 ghost use Rattle.hybrid_model.specs.Trap.{after_trap, trapped};
 ghost use Rattle.ikc_channel.specs.declared.Channel.{Channel as channels};
-ghost use Rattle.isa_model.specs.Registers.{reg};
 ghost use Rattle.isa_model.specs.declared.stops.Stop.TheVariants as stops;
 ghost use Rattle.kernel_model.specs.Calls.{one_of_calls};
 ghost use Rattle.kernel_model.specs.LocalCalls.{answers};
 ghost use Rattle.kernel_model.specs.Nodes.{is_stopped, process_of, thread_of};
-ghost use Rattle.kernel_model.specs.Plans as plans;
-ghost use Rattle.kernel_model.specs.Plans.{Phase};
+ghost use Rattle.kernel_model.specs.CallPhases.{Phase};
 ghost use Rattle.kernel_model.specs.Progress.{starting};
 ghost use Rattle.kernel_model.specs.Signals.{on_node, raised, signal_of_stop};
-ghost use Rattle.kernel_model.specs.Traps.{Begins, arguments_of as arguments_in, past_ecall, planned, trap, trap_of_stop};
+ghost use Rattle.kernel_model.specs.Traps.{Begins, call_named, called, past_ecall, trap, trap_of_stop};
 ghost use Rattle.kernel_tables.specs.Shown.{node_of};
 ghost use Rattle.lwk_side.specs.Begins.{begins_at, begins_call, names_delegated};
 ghost use Rattle.lwk_side.specs.Changing.{HasTrappedRoom, HeapFits};
@@ -25,16 +23,19 @@ ghost use Rattle.lwk_side.specs.Wired.{HasPlace, Wired};
 ghost use Rattle.lwk_views.specs.Views.{seen};
 ghost use Rattle.mck_word.specs.Words.{refused};
 ghost use Rattle.std.specs.Prelude.{◌≡◌, ◌<◌, ◌-◌, ◌≤◌, ◌^◌, List, Some, false, get_or, length, true, ℕ};
+ghost use Rattle.system_calls.specs.declared.LocalCall.TheVariants.{Futex};
+ghost use Rattle.system_calls.specs.declared.SystemCall.TheVariants.{Clone, Local};
 
 use crate::kernel::Lwk;
 use crate::task::Task;
-use crate::trap_local::{arguments_of, call_number, local_call, raises, refuses_unknown};
-use call_plan::{Plan, plan};
+use crate::trap_local::{local_call, raises, refuses_unknown};
 use ikc_channel::Channel;
 use isa_model::Stop;
 use kernel_model::Does;
+use kernel_tables::{arguments_of, call_named};
 use mck_word::{Pid, Regs, Tid};
 use page_map::PageTable;
+use system_calls::{FileCall, LocalCall, SystemCall};
 
 impl Lwk {
     /// The stop of the thread raises its signal.
@@ -63,30 +64,23 @@ impl Lwk {
     }
 
     /// A local call of the thread is made, behind its ecall.
-    pub(crate) fn calls_locally<T: PageTable>(
+    fn calls_locally<T: PageTable>(
         &mut self,
         task: &Task<T>,
         t: Tid,
-        number: u64,
+        call: LocalCall,
         args: &[u64; 6],
     )
         requires sound { IsSound self.old (T.rows task.now.space.table) }
-        requires rest { number ≡ 98 → MayRest self.old.node t.0 }
+        requires rest { call ≡ Futex → MayRest self.old.node t.0 }
         ensures after { (c : channels) (r : Rest) → here_of self.new (T.rows task.now.space.table) task.now c r
             ≡ (let h = here_of self.old (T.rows task.now.space.table) task.now c r in
-            with_view (one_of_calls t.0 number (λ k. get_or args.now k 0) (past_ecall t.0 (view_here h))) h) }
+            with_view (one_of_calls t.0 call (λ k. get_or args.now k 0) (past_ecall t.0 (view_here h))) h) }
         ensures cores { self.new.cores ≡ self.old.cores }
         ensures frames { KeepsFrames self.old self.new }
     {
         self.node.past_ecall(t);
-        local_call(
-            &mut self.node,
-            &task.space,
-            &mut self.frames,
-            t,
-            number,
-            args,
-        );
+        local_call(&mut self.node, &task.space, &mut self.frames, t, call, args);
     }
 
     /// A delegated call of the thread begins, behind its ecall.
@@ -95,7 +89,7 @@ impl Lwk {
         task: &mut Task<T>,
         channel: &mut Channel,
         t: Tid,
-        number: u64,
+        call: FileCall,
         args: &[u64; 6],
     )
         requires wired { Wired self.old channel.old.to_linux }
@@ -105,13 +99,13 @@ impl Lwk {
         requires more { channel.old.book.requests.next < 2 ^ 64 - 1 }
         ensures after { (r : Rest) (p : ℕ) (phases : List Phase) → here_of self.new (T.rows task.new.space.table) task.new channel.new r
             ≡ (let h = here_of self.old (T.rows task.old.space.table) task.old channel.old r in
-            trapped p t.0 (Begins (past_ecall t.0 (view_here h)).node (starting number args.now phases)) h) }
+            trapped p t.0 (Begins (past_ecall t.0 (view_here h)).node (starting call args.now phases)) h) }
         ensures cores { self.new.cores ≡ self.old.cores }
         ensures frames { KeepsFrames self.old self.new }
         ensures rings { KeepsRings channel.old channel.new }
     {
         self.node.past_ecall(t);
-        self.begin_call(task, channel, t, number, args);
+        self.begin_call(task, channel, t, call, args);
     }
 
     /// The call that the registers of the thread name, which stands on its ecall.
@@ -129,27 +123,27 @@ impl Lwk {
         requires room { 1 ≤ channel.old.book.spare }
         requires callers { 1 ≤ task.old.callers.spare }
         requires more { channel.old.book.requests.next < 2 ^ 64 - 1 }
-        requires rest { reg regs.now 17 ≡ 98 → MayRest self.old.node t.0 }
-        requires clone { reg regs.now 17 ≡ 220 → MayClone self.old.node t.0 }
+        requires rest { call_named regs.now ≡ Some (Local Futex) → MayRest self.old.node t.0 }
+        requires clone { call_named regs.now ≡ Some Clone → MayClone self.old.node t.0 }
         requires no_fork { names_fork regs.now ≡ false }
         requires own { (files : Files) → (thread_of (node_of self.old.node files) t.0).process ≡ p.0 }
         requires heap { (files : Files) → HeapFits (process_of (node_of self.old.node files) p.0) }
         requires change { (files : Files) → HasTrappedRoom (T.has_room task.old.space.table) task.old.space.areas.spare p.0
-            (planned t.0 (length self.old.pool.free) regs.now (past_ecall t.0 (seen (T.rows task.old.space.table) self.old.node self.old.frames files)) (plans.plan (reg regs.now 17) (arguments_in regs.now))) }
+            (called t.0 (length self.old.pool.free) regs.now (past_ecall t.0 (seen (T.rows task.old.space.table) self.old.node self.old.frames files)) (call_named regs.now)) }
         ensures after { (r : Rest) → here_of self.new (T.rows task.new.space.table) task.new channel.new r
             ≡ (let h = here_of self.old (T.rows task.old.space.table) task.old channel.old r in
-            trapped p.0 t.0 (planned t.0 (length h.free) regs.now (past_ecall t.0 (view_here h)) (plans.plan (reg regs.now 17) (arguments_in regs.now))) h) }
+            trapped p.0 t.0 (called t.0 (length h.free) regs.now (past_ecall t.0 (view_here h)) (call_named regs.now)) h) }
         ensures cores { self.new.cores ≡ self.old.cores }
         ensures frames { KeepsFrames self.old self.new }
         ensures rings { KeepsRings channel.old channel.new }
     {
-        let number = call_number(regs);
         let args = arguments_of(regs);
-        match plan(number, &args) {
-            Plan::Unknown => self.refuses_call(task, t),
-            Plan::Local => self.makes_call(task, t, number, &args),
-            Plan::Memory => self.calls_for_memory(task, p, t, number, &args),
-            Plan::Delegated(_) => self.begins(task, channel, t, number, &args),
+        match call_named(regs) {
+            None => self.refuses_call(task, t),
+            Some(SystemCall::Clone) => self.clones(task, t, &args),
+            Some(SystemCall::Local(call)) => self.calls_locally(task, t, call, &args),
+            Some(SystemCall::Memory(call)) => self.calls_for_memory(task, p, t, call, &args),
+            Some(SystemCall::File(call)) => self.begins(task, channel, t, call, &args),
         }
     }
 
@@ -168,8 +162,8 @@ impl Lwk {
         requires room { 1 ≤ channel.old.book.spare }
         requires callers { 1 ≤ task.old.callers.spare }
         requires more { channel.old.book.requests.next < 2 ^ 64 - 1 }
-        requires rest { (files : Files) → reg (thread_of (node_of self.old.node files) t.0).regs 17 ≡ 98 → MayRest self.old.node t.0 }
-        requires clone { (files : Files) → reg (thread_of (node_of self.old.node files) t.0).regs 17 ≡ 220 → MayClone self.old.node t.0 }
+        requires rest { (files : Files) → call_named (thread_of (node_of self.old.node files) t.0).regs ≡ Some (Local Futex) → MayRest self.old.node t.0 }
+        requires clone { (files : Files) → call_named (thread_of (node_of self.old.node files) t.0).regs ≡ Some Clone → MayClone self.old.node t.0 }
         requires no_fork { (files : Files) → forks_at (thread_of (node_of self.old.node files) t.0).regs (Some stop) ≡ false }
         requires own { (files : Files) → (thread_of (node_of self.old.node files) t.0).process ≡ p.0 }
         requires heap { (files : Files) → HeapFits (process_of (node_of self.old.node files) p.0) }
@@ -199,8 +193,8 @@ impl Lwk {
         requires room { 1 ≤ channel.old.book.spare }
         requires callers { 1 ≤ task.old.callers.spare }
         requires more { channel.old.book.requests.next < 2 ^ 64 - 1 }
-        requires rest { (files : Files) → reg (thread_of (node_of self.old.node files) t.0).regs 17 ≡ 98 → MayRest self.old.node t.0 }
-        requires clone { (files : Files) → reg (thread_of (node_of self.old.node files) t.0).regs 17 ≡ 220 → MayClone self.old.node t.0 }
+        requires rest { (files : Files) → call_named (thread_of (node_of self.old.node files) t.0).regs ≡ Some (Local Futex) → MayRest self.old.node t.0 }
+        requires clone { (files : Files) → call_named (thread_of (node_of self.old.node files) t.0).regs ≡ Some Clone → MayClone self.old.node t.0 }
         requires no_fork { (files : Files) → calls_fork (node_of self.old.node files) t.0 ≡ false }
         requires stopped { (files : Files) → is_stopped (thread_of (node_of self.old.node files) t.0).does ≡ true }
         requires own { (files : Files) → (thread_of (node_of self.old.node files) t.0).process ≡ p.0 }

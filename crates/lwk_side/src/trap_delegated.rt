@@ -2,7 +2,7 @@
 ghost use Rattle.hybrid_model.specs.Trap.{begin_call};
 ghost use Rattle.hybrid_model.specs.Pairs.{ring_of, with_node, with_side};
 ghost use Rattle.kernel_model.specs.Nodes.{set_does};
-ghost use Rattle.kernel_model.specs.Plans.{Phase};
+ghost use Rattle.kernel_model.specs.CallPhases.{Phase};
 ghost use Rattle.kernel_model.specs.Progress.{starting};
 ghost use Rattle.kernel_model.specs.declared.Does.TheVariants.{Called};
 ghost use Rattle.lwk_side.specs.Sound.{KeepsFrames, KeepsRings};
@@ -13,20 +13,22 @@ ghost use Rattle.std.specs.Prelude.{◌≡◌, ◌<◌, ◌-◌, ◌≤◌, ◌^
 use crate::kernel::Lwk;
 use crate::task::{Caller, Task};
 use ikc_channel::Channel;
-use ikc_ring::{Call, Msg};
+use ikc_ring::{CallRequest, Msg};
 use kernel_model::Does;
 use mck_word::Tid;
 use page_map::PageTable;
+use system_calls::FileCall;
 
 #[tactic(auto, using(mck_word::specs::EachLaws::each_maps), unfolding(hybrid_model::specs::Trap::begin_call))]
 impl Lwk {
-    /// A delegated call of the thread begins: it has the next number, and its Request is posted to the ring of the thread.
+    /// A delegated call of the thread begins: it has the next number, and its Request is posted to the ring of the
+    /// thread.
     pub fn begin_call<T: PageTable>(
         &mut self,
         task: &mut Task<T>,
         channel: &mut Channel,
         t: Tid,
-        number: u64,
+        call: FileCall,
         args: &[u64; 6],
     )
         requires wired { Wired self.old channel.old.to_linux }
@@ -36,27 +38,27 @@ impl Lwk {
         requires more { channel.old.book.requests.next < 2 ^ 64 - 1 }
         ensures after { (r : Rest) (phases : List Phase) → here_of self.new (T.rows task.new.space.table) task.new channel.new r
             ≡ (let h = here_of self.old (T.rows task.old.space.table) task.old channel.old r in
-            with_node (with_side h (begin_call (ring_of h t.0) t.0 (starting number args.now phases) h.side)) (set_does t.0 Called h.node)) }
+            with_node (with_side h (begin_call (ring_of h t.0) t.0 (starting call args.now phases) h.side)) (set_does t.0 Called h.node)) }
         ensures cores { self.new.cores ≡ self.old.cores }
         ensures frames { KeepsFrames self.old self.new }
         ensures rings { KeepsRings channel.old channel.new }
     {
         let q = channel.book.fresh();
-        let call = Call {
+        let request = CallRequest {
             q,
             tid: t,
-            number,
+            call,
             args: *args,
         };
         let ring = self.ring_of(t);
         task.callers.put(
             t.0 as u64,
             Caller {
-                request: channel.book.number(call),
+                request: channel.book.number(request),
                 marked: false,
             },
         );
-        channel.to_linux.post(ring, Msg::Request(call));
+        channel.to_linux.post(ring, Msg::Request(request));
         self.node.set_does(t, Does::Called);
     }
 }

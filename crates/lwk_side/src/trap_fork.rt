@@ -18,22 +18,23 @@ ghost use Rattle.std.specs.Prelude.{◌≡◌, ◌≤◌, Some, length, slice_in
 
 use crate::kernel::Lwk;
 use crate::task::Task;
-use crate::trap_local::{arguments_of, call_number};
 use isa_model::Stop;
 use kernel_model::Does;
+use kernel_tables::{arguments_of, call_named};
 use lwk_calls::{are_fork_flags, begins_child, fork_refusal, tells_child};
 use lwk_space::Space;
 use mck_word::{Pid, Regs, Tid};
 use page_map::PageTable;
-
-// The number of clone.
-const CLONE: u64 = 220;
+use system_calls::SystemCall;
 
 /// Whether the call that the registers name is a fork.
 fn names_fork(regs: &Regs) -> bool
     ensures { result ≡ names_fork regs.now }
 {
-    call_number(regs) == CLONE && are_fork_flags(arguments_of(regs)[0])
+    match call_named(regs) {
+        Some(SystemCall::Clone) => are_fork_flags(arguments_of(regs)[0]),
+        _ => false,
+    }
 }
 
 impl Lwk {
@@ -47,7 +48,8 @@ impl Lwk {
         }
     }
 
-    /// Why a fork of the process that has the space is refused: there are as many processes as there may be, or fewer free frames than it has pages.
+    /// Why a fork of the process that has the space is refused: there are as many processes as there may be, or fewer
+    /// free frames than it has pages.
     fn fork_refusal<T: PageTable>(&self, space: &Space<T>) -> Option<i64>
         ensures { (files : Files) → result ≡ refusal_of (count (node_of self.now.node files).processes) (length self.now.pool.free) (count (T.rows space.now.table)) }
     {
@@ -58,7 +60,8 @@ impl Lwk {
         )
     }
 
-    /// A fork that isn't refused: a process begins with a copy of the memory in the lowest free frames, and with its own stores.
+    /// A fork that isn't refused: a process begins with a copy of the memory in the lowest free frames, and with its
+    /// own stores.
     fn forks<T: PageTable>(
         &mut self,
         task: &Task<T>,
@@ -99,8 +102,8 @@ impl Lwk {
         self.node.answered(t, answer);
     }
 
-    /// The trap of a stopped thread of the process that is a fork. It answers the number of the process that begins, whose space is then
-    /// `child`, and None where the fork is refused.
+    /// The trap of a stopped thread of the process that is a fork. It answers the number of the process that begins,
+    /// whose space is then `child`, and None where the fork is refused.
     pub fn fork<T: PageTable>(
         &mut self,
         task: &Task<T>,

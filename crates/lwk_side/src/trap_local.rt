@@ -1,11 +1,9 @@
-// The trap of a local call: which call it is, and its answer.
+// The trap of a local call, or of one that isn't known.
 ghost use Rattle.file_model.specs.Errno.{ENOSYS};
 ghost use Rattle.file_model.specs.Files.{Files};
-ghost use Rattle.isa_model.specs.Registers.{reg};
 ghost use Rattle.kernel_model.specs.Calls.{one_of_calls};
 ghost use Rattle.kernel_model.specs.LocalCalls.{answers};
 ghost use Rattle.kernel_model.specs.Signals.{on_node, raised, signal_of_stop};
-ghost use Rattle.kernel_model.specs.Traps.{arguments_of};
 ghost use Rattle.kernel_tables.specs.Room.{KeepsRoom};
 ghost use Rattle.kernel_tables.specs.Shown.{node_of};
 ghost use Rattle.lwk_side.specs.Resting.{MayRest};
@@ -13,35 +11,18 @@ ghost use Rattle.lwk_space.specs.Rows.{FramesApart, FramesIn};
 ghost use Rattle.lwk_views.specs.Views.{Did, DidAlone};
 ghost use Rattle.mck_word.specs.Words.{refused};
 ghost use Rattle.std.specs.Prelude.{◌≡◌, ◌≤◌, get_or};
+ghost use Rattle.system_calls.specs.declared.LocalCall.TheVariants.{Futex};
 
-use call_plan::arguments::int;
+use call_phases::arguments::int;
 use frame_mem::FrameMem;
 use isa_model::Stop;
 use kernel_model::Does;
 use kernel_tables::KernelTables;
 use lwk_signals::has;
 use lwk_space::Space;
-use mck_word::{End, Regs, Tid};
+use mck_word::{End, Tid};
 use page_map::PageTable;
-
-// The negated error number of a call that isn't known.
-const NO_CALL: i64 = -38;
-
-/// The number of the call that the registers name.
-pub fn call_number(regs: &Regs) -> u64
-    ensures { result ≡ reg regs.now 17 }
-{
-    regs.x[17]
-}
-
-/// The arguments of the call that the registers name.
-pub fn arguments_of(regs: &Regs) -> [u64; 6]
-    ensures { result ≡ arguments_of regs.now }
-{
-    [
-        regs.x[10], regs.x[11], regs.x[12], regs.x[13], regs.x[14], regs.x[15],
-    ]
-}
+use system_calls::{LocalCall, errors};
 
 /// The signal of a stop that is no call, or 0.
 fn signal_of(stop: Stop) -> u32
@@ -95,7 +76,7 @@ pub fn raises(node: &mut KernelTables, t: Tid, stop: Stop)
 pub fn refuses_unknown(node: &mut KernelTables, t: Tid)
     ensures { DidAlone node.old node.new (answers t.0 (refused ENOSYS)) }
 {
-    node.answered(t, NO_CALL);
+    node.answered(t, errors::ENOSYS);
 }
 
 /// A local call of the thread, which stands behind its ecall.
@@ -104,31 +85,51 @@ pub fn local_call<T: PageTable>(
     space: &Space<T>,
     mem: &mut FrameMem,
     t: Tid,
-    number: u64,
+    call: LocalCall,
     args: &[u64; 6],
 )
     requires frames { FramesIn (T.rows space.now.table) mem.old }
     requires apart { FramesApart (T.rows space.now.table) }
-    requires rest { number ≡ 98 → MayRest node.old t.0 }
-    ensures { Did (T.rows space.now.table) node.old mem.old node.new mem.new (one_of_calls t.0 number (λ k. get_or args.now k 0)) }
+    requires rest { call ≡ Futex → MayRest node.old t.0 }
+    ensures { Did (T.rows space.now.table) node.old mem.old node.new mem.new (one_of_calls t.0 call (λ k. get_or args.now k 0)) }
 {
-    match number {
-        93 => lwk_calls::exits(node, space, mem, t, (args[0] % 256) as u8),
-        94 => lwk_calls::exits_group(node, t, (args[0] % 256) as u8),
-        96 => lwk_calls::sets_clear_address(node, t, args[0]),
-        98 => lwk_calls::futex(node, space, mem, t, args[0], args[1], args[2], args[3]),
-        99 => lwk_calls::sets_robust_list(node, t, args[1]),
-        124 => lwk_calls::answers_zero(node, t),
-        129 => lwk_calls::kill(node, t, int(args[0]), int(args[1])),
-        131 => lwk_calls::tgkill(node, t, int(args[0]), int(args[1]), int(args[2])),
-        134 => lwk_calls::sigaction(node, space, mem, t, int(args[0]), args[1], args[2], args[3]),
-        135 => lwk_calls::sigprocmask(node, space, mem, t, int(args[0]), args[1], args[2], args[3]),
-        136 => lwk_calls::sigpending(node, space, mem, t, args[0], args[1]),
-        139 => lwk_calls::return_from_handler(node, space, mem, t),
-        172 => lwk_calls::getpid(node, t),
-        173 => lwk_calls::getppid(node, t),
-        178 => lwk_calls::gettid(node, t),
-        _ => lwk_calls::wait4(
+    match call {
+        LocalCall::Exit => lwk_calls::exits(node, space, mem, t, (args[0] % 256) as u8),
+        LocalCall::ExitGroup => lwk_calls::exits_group(node, t, (args[0] % 256) as u8),
+        LocalCall::SetTidAddress => lwk_calls::sets_clear_address(node, t, args[0]),
+        LocalCall::Futex => lwk_calls::futex(
+            node, space, mem, t, args[0], args[1], args[2], args[3],
+        ),
+        LocalCall::SetRobustList => lwk_calls::sets_robust_list(node, t, args[1]),
+        LocalCall::SchedYield => lwk_calls::answers_zero(node, t),
+        LocalCall::Kill => lwk_calls::kill(node, t, int(args[0]), int(args[1])),
+        LocalCall::Tgkill => lwk_calls::tgkill(node, t, int(args[0]), int(args[1]), int(args[2])),
+        LocalCall::RtSigaction => lwk_calls::sigaction(
+            node,
+            space,
+            mem,
+            t,
+            int(args[0]),
+            args[1],
+            args[2],
+            args[3],
+        ),
+        LocalCall::RtSigprocmask => lwk_calls::sigprocmask(
+            node,
+            space,
+            mem,
+            t,
+            int(args[0]),
+            args[1],
+            args[2],
+            args[3],
+        ),
+        LocalCall::RtSigpending => lwk_calls::sigpending(node, space, mem, t, args[0], args[1]),
+        LocalCall::RtSigreturn => lwk_calls::return_from_handler(node, space, mem, t),
+        LocalCall::Getpid => lwk_calls::getpid(node, t),
+        LocalCall::Getppid => lwk_calls::getppid(node, t),
+        LocalCall::Gettid => lwk_calls::gettid(node, t),
+        LocalCall::Wait4 => lwk_calls::wait4(
             node,
             space,
             mem,

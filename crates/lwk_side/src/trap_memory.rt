@@ -18,38 +18,31 @@ ghost use Rattle.vm_calls.specs.Facts.{decision};
 
 use crate::kernel::Lwk;
 use crate::task::Task;
-use ikc_ring::Call;
 use kernel_model::Does;
 use lwk_changes::decide;
 use lwk_space::Space;
-use mck_word::{Pid, Req, Tid};
+use mck_word::{Pid, Tid};
 use page_map::PageTable;
+use system_calls::MemoryCall;
 use vm_calls::VmPlan;
 
 impl Lwk {
-    /// What a memory call of the process decides. No request belongs to it.
+    /// What a memory call of the process decides.
     pub(crate) fn plans_memory_call<T: PageTable>(
         &self,
         space: &Space<T>,
         p: Pid,
-        t: Tid,
-        number: u64,
+        call: MemoryCall,
         args: &[u64; 6],
     ) -> VmPlan
         requires { (files : Files) → HeapFits (process_of (node_of self.now.node files) p.0) }
         ensures fits { DecisionFits (decision result) }
         ensures is { (files : Files) → decision result
-            ≡ decide (process_of (node_of self.now.node files) p.0) (memory (T.rows space.now.table) self.now.frames) (length self.now.pool.free) number args.now }
+            ≡ decide (process_of (node_of self.now.node files) p.0) (memory (T.rows space.now.table) self.now.frames) (length self.now.pool.free) call args.now }
     {
-        let call = Call {
-            q: Req(0),
-            tid: t,
-            number,
-            args: *args,
-        };
         let brk = self.node.program_break(p);
         let base = self.node.heap_base(p);
-        decide(space, brk, base, self.pool.free(), &call)
+        decide(space, brk, base, self.pool.free(), call, args)
     }
 
     /// The thread has its answer, its change is made, or it waits for the round of its change.
@@ -77,22 +70,22 @@ impl Lwk {
         task: &mut Task<T>,
         p: Pid,
         t: Tid,
-        number: u64,
+        call: MemoryCall,
         args: &[u64; 6],
     )
         requires sound { IsSound self.old (T.rows task.old.space.table) }
         requires own { (files : Files) → (thread_of (node_of self.old.node files) t.0).process ≡ p.0 }
         requires heap { (files : Files) → HeapFits (process_of (node_of self.old.node files) p.0) }
         requires room { (files : Files) → HasTrappedRoom (T.has_room task.old.space.table) task.old.space.areas.spare p.0
-            (memory_call t.0 (length self.old.pool.free) number args.now (seen (T.rows task.old.space.table) self.old.node self.old.frames files)) }
+            (memory_call t.0 (length self.old.pool.free) call args.now (seen (T.rows task.old.space.table) self.old.node self.old.frames files)) }
         ensures after { (c : channels) (r : Rest) → here_of self.new (T.rows task.new.space.table) task.new c r
             ≡ (let h = here_of self.old (T.rows task.old.space.table) task.old c r in
-            trapped p.0 t.0 (memory_call t.0 (length h.free) number args.now (view_here h)) h) }
+            trapped p.0 t.0 (memory_call t.0 (length h.free) call args.now (view_here h)) h) }
         ensures cores { self.new.cores ≡ self.old.cores }
         ensures frames { KeepsFrames self.old self.new }
     {
         self.node.past_ecall(t);
-        let plan = self.plans_memory_call(&task.space, p, t, number, args);
+        let plan = self.plans_memory_call(&task.space, p, call, args);
         self.does_as_planned(task, p, t, &plan);
     }
 }

@@ -12,7 +12,8 @@ use mck_word::Tid;
 use page_map::PageTable;
 
 impl Lwk {
-    /// The thread waits for a child no longer: the lowest selected child that is Ended is told, or the call is refused.
+    /// The thread waits for a child no longer: the lowest selected child that is Ended is told, or the call is
+    /// refused.
     pub fn wait<T: PageTable>(&mut self, task: &Task<T>, t: Tid)
         requires sound { IsSound self.old (T.rows task.now.space.table) }
         ensures event { (c : channels) (r : Rest) → here_of self.new (T.rows task.now.space.table) task.now c r

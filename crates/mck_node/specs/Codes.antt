@@ -2,7 +2,7 @@
 use Rattle.clear_rounds.specs.contracts.Phase as phase
 use Rattle.file_model.specs.contracts.descriptions.Description as description
 use Rattle.hybrid_model.specs.contracts.events.Event as event
-use Rattle.ikc_ring.specs.contracts.Call as call
+use Rattle.ikc_ring.specs.contracts.CallRequest as call
 use Rattle.ikc_ring.specs.contracts.Msg as message
 use Rattle.kernel_model.specs.contracts.Action as action
 use Rattle.kernel_model.specs.contracts.Does as does
@@ -19,6 +19,7 @@ use Rattle.page_pins.specs.contracts.Pin as pin
 use Rattle.request_book.specs.contracts.ReqState as request_state
 use Rattle.std.specs.Coded.{Coded, codes, coded_ℕ}
 use Rattle.std.specs.FinMap as finmap
+use Rattle.system_calls.specs.contracts.file_calls.FileCall as file_call
 
 abbrev pub coded-map : {X : Type 0} → Coded X → Coded (Map X)
 coded-map x = finmap.code coded_ℕ x
@@ -29,6 +30,7 @@ coded-history = hlevel (
   coded-map,
   event.the_row.coded,
   call.the_row.coded,
+  file_call.the_row.coded,
   message.the_row.coded,
   description.the_row.coded,
   action.the_row.coded,

@@ -4,6 +4,7 @@ use Rattle.hybrid_laws.proofs.maps.Tests.{both}
 use Rattle.hybrid_laws.proofs.trap.DecideSays.{found-test}
 use Rattle.isa_model.specs.Memory.{Memory}
 use Rattle.job_model.specs.Images.{highest}
+use Rattle.kernel_model.specs.CallPhases.{argument}
 use Rattle.kernel_model.specs.MemoryCalls.{Reply as DecidedReply, Round as DecidedRound, Decision, Now, all_present, any_lessened, brk, brk_down, brk_up, count_present, decide, exceeds, gap_below, gap_ends, highest_gap, highest_gap_end, is_aligned, is_fixed, is_gap, is_inside, low_word, lowest_address, map_anywhere, map_fixed, mmap, most_heap, mprotect, munmap, no_page_in, pages_for, protect_range, range_for, refuse, rights_of_prot, round_or_now}
 use Rattle.kernel_model.specs.Nodes.{Node, Process, Thread, change_in, no_process, no_thread, process_of, thread_of}
 use Rattle.kernel_model.specs.Pages.{page_end, page_number, pages_count, range}
@@ -16,7 +17,9 @@ use Rattle.mck_word.specs.declared.PageRange.{PageRange}
 use Rattle.offer_laws.specs.ChangeFits.{ChangeFits, DecisionFits, NodeFits, wanted}
 use Rattle.std.proofs.Common.{arith, refl, ◌∙◌}
 use Rattle.std.proofs.lemmas.Bool.Decides.{nat_tests}
-use Rattle.std.specs.Prelude.{Bool, None, Option, Some, cond, false, get_or, List, nat_le, nat_lt, not, pos, true, unwrap_or, ℕ, ◌%◌, ◌&&◌, ◌*◌, ◌+◌, ◌==◌, ◌^◌, ◌||◌, ◌≡◌, ◌≤◌}
+use Rattle.std.specs.Prelude.{Bool, None, Option, Some, cond, false, List, nat_le, nat_lt, not, pos, true, unwrap_or, ℕ, ◌%◌, ◌&&◌, ◌*◌, ◌+◌, ◌==◌, ◌^◌, ◌||◌, ◌≡◌, ◌≤◌}
+use Rattle.system_calls.specs.declared.MemoryCall.TheVariants as Calls
+use Rattle.system_calls.specs.declared.MemoryCall.{MemoryCall}
 
 pub low-heap : (a : Node) (p : ℕ) → NodeFits a → (process_of a p).heap_base ≤ highest
 low-heap a p f = go (at a.processes p) refl
@@ -114,9 +117,8 @@ module _ (x : Process) (m : Memory) (free : ℕ) where
       up l = fits-if (nat_lt 0 (count_present m (range (page_end x.program_break) (page_end a))) || nat_lt free (pages_count (range (page_end x.program_break) (page_end a)))) (DecidedReply (pos x.program_break)) (Now (Brk a)) (λ f. tt) (λ f. l)
 
   -- where the heap begins low enough
-  pub decide-fits : x.heap_base ≤ highest → (number : ℕ) (arguments : List ℕ) → DecisionFits (decide x m free number arguments)
-  decide-fits low number arguments =
-      let a0 = get_or arguments 0 0 in let a1 = get_or arguments 1 0 in let a2 = low_word (get_or arguments 2 0) in let a3 = low_word (get_or arguments 3 0) in
-      fits-if (number == 222) (mmap m free a0 a1 a2 a3) (cond (number == 215) (munmap m a0 a1) (cond (number == 226) (mprotect m a0 a1 a2) (brk x m free a0))) (λ e. mmap-fits a0 a1 a2 a3)
-      (λ e. fits-if (number == 215) (munmap m a0 a1) (cond (number == 226) (mprotect m a0 a1 a2) (brk x m free a0)) (λ f. munmap-fits a0 a1)
-      (λ f. fits-if (number == 226) (mprotect m a0 a1 a2) (brk x m free a0) (λ g. mprotect-fits a0 a1 a2) (λ g. brk-fits low a0)))
+  pub decide-fits : x.heap_base ≤ highest → (call : MemoryCall) (arguments : List ℕ) → DecisionFits (decide x m free call arguments)
+  decide-fits low Calls.Mmap arguments = mmap-fits (argument arguments 0) (argument arguments 1) (low_word (argument arguments 2)) (low_word (argument arguments 3))
+  decide-fits low Calls.Munmap arguments = munmap-fits (argument arguments 0) (argument arguments 1)
+  decide-fits low Calls.Mprotect arguments = mprotect-fits (argument arguments 0) (argument arguments 1) (low_word (argument arguments 2))
+  decide-fits low Calls.Brk arguments = brk-fits low (argument arguments 0)

@@ -28,18 +28,16 @@ use Rattle.ikc_ring.specs.declared.Msg.TheVariants.{Ack, Answer, Clear, Fault, I
 use Rattle.ikc_ring.specs.declared.Msg.{Msg}
 use Rattle.isa_model.specs.Instr.{Outcome, instr}
 use Rattle.isa_model.specs.Memory.{may_access}
-use Rattle.isa_model.specs.Registers.{reg}
 use Rattle.isa_model.specs.declared.stops.Stop.TheVariants.{Break, Ecall, Illegal, Misaligned, On, Fault as StopFault}
 use Rattle.isa_model.specs.declared.stops.Stop.{Stop}
 use Rattle.job_model.specs.Images.{highest}
-use Rattle.kernel_model.specs.Calls.{local_call, one_of_calls}
+use Rattle.kernel_model.specs.Calls.{clone_call, local_call}
 use Rattle.kernel_model.specs.CloneCalls.{CallDone, are_clone_flags, are_fork_flags, child_process, child_thread, clone, clone_or_fork, cloned_thread, clones, forks, with_child, with_thread}
 use Rattle.kernel_model.specs.LocalCalls.{answers, refuses}
 use Rattle.kernel_model.specs.MemoryCalls.{Decision, Now, Reply as DecidedReply, Round as DecidedRound, answer_of_change, decide, effect_of, refusal_at_end}
 use Rattle.kernel_model.specs.Nodes.{Node, Process, Sleeper, Thread, change_in, change_process, change_thread, is_living, most_processes, most_threads, process_of, ready_to_run, set_does, set_pc, stop_in, thread_of, threads_of, without_sleeper}
-use Rattle.kernel_model.specs.Plans.{Delegated, Local, Plan, Unknown, Vm, plan}
 use Rattle.kernel_model.specs.Signals.{View, generate_for_process, on_node, raised, signal_of_stop, store}
-use Rattle.kernel_model.specs.Traps.{Begins, Changes, Done, Forks, Ran, Trapped, arguments_of, called_back, cloned, decided, does_after, executed, finishes, life_ended, past_ecall, planned, process_ended, returns, trap, trap_of_stop, wait_of, waited, waited_for}
+use Rattle.kernel_model.specs.Traps.{Begins, Changes, Done, Forks, Ran, Trapped, arguments_of, call_named, called, called_back, cloned, decided, does_after, executed, finishes, life_ended, past_ecall, process_ended, returns, trap, trap_of_stop, wait_of, waited, waited_for}
 use Rattle.kernel_model.specs.declared.Change.{Change}
 use Rattle.kernel_model.specs.declared.Does.TheVariants.{Called, InVm}
 use Rattle.mck_word.specs.MapLaws.{at-collect, at-put}
@@ -54,6 +52,9 @@ use Rattle.offer_laws.specs.ChangeFits.{ChangeFits, DecisionFits, NodeFits, want
 use Rattle.std.proofs.Common.{ap, arith, refl, subst, sym, ◌∙◌}
 use Rattle.std.proofs.lemmas.Bool.Decides.{nat_tests}
 use Rattle.std.specs.Prelude.{Bool, List, None, Option, Some, [], cond, false, filter, get_or, length, nat_le, nat_lt, not, option_map, pos, suc, true, zero, ℕ, ℤ, ◌+◌, ◌==◌, ◌∷◌, ◌≡◌, ◌≤◌}
+use Rattle.system_calls.specs.declared.LocalCall.{LocalCall}
+use Rattle.system_calls.specs.declared.SystemCall.TheVariants.{Clone, File, Local, Memory}
+use Rattle.system_calls.specs.declared.SystemCall.{SystemCall}
 
 -- ---- from what a part of the event leaves
 fits-waits : (a b : Node) → NodeFits a → (HeapsFit a → HeapsFit b) → ((u : ℕ) → Waits u a b) → NodeFits b
@@ -197,14 +198,13 @@ module _ (t frames : ℕ) (v : View) (fits : NodeFits v.node) where
       go true false false = forks-fits flags stack parent_tid tls child_tid
       go false c d = clone-fits flags stack parent_tid tls child_tid
 
-  local-fits : (number : ℕ) (arguments : List ℕ) → TrapFits (cloned (local_call t frames number arguments behind))
+  local-fits : (call : LocalCall) (arguments : List ℕ) → NodeFits (local_call t call arguments behind).node
   unfolding local_call
-  local-fits number arguments = go (number == 220) (fork-fits (get_or arguments 0 0) (get_or arguments 1 0) (get_or arguments 2 0) (get_or arguments 3 0) (get_or arguments 4 0))
-    where
-      go : (b : Bool) → TrapFits (cloned (clone_or_fork t frames (get_or arguments 0 0) (get_or arguments 1 0) (get_or arguments 2 0) (get_or arguments 3 0) (get_or arguments 4 0) behind))
-          → TrapFits (cloned (cond b (clone_or_fork t frames (get_or arguments 0 0) (get_or arguments 1 0) (get_or arguments 2 0) (get_or arguments 3 0) (get_or arguments 4 0) behind) (CallDone (one_of_calls t number (λ k. get_or arguments k 0) behind))))
-      go true k = k
-      go false k = fits-rests t behind.node (one_of_calls t number (λ j. get_or arguments j 0) behind).node behind-fits (calls-closed t (Stays t) (Stays t) (stays-closed t) number (λ j. get_or arguments j 0) behind) (calls-rest t number (λ j. get_or arguments j 0) behind)
+  local-fits call arguments = fits-rests t behind.node (local_call t call arguments behind).node behind-fits (calls-closed t (Stays t) (Stays t) (stays-closed t) call (λ j. get_or arguments j 0) behind) (calls-rest t call (λ j. get_or arguments j 0) behind)
+
+  clone_call-fits : (arguments : List ℕ) → TrapFits (cloned (clone_call t frames arguments behind))
+  unfolding clone_call
+  clone_call-fits arguments = fork-fits (get_or arguments 0 0) (get_or arguments 1 0) (get_or arguments 2 0) (get_or arguments 3 0) (get_or arguments 4 0)
 
   decided-fits : (d : Decision) → DecisionFits d → TrapFits (decided t behind d)
   decided-fits (DecidedReply answer) h = fits-answered t answer behind behind-fits
@@ -216,13 +216,14 @@ module _ (t frames : ℕ) (v : View) (fits : NodeFits v.node) where
       own c None e = absurd (grind (arith, e))
       own c (Some x) e = let g : change ≡ c = cc in subst ChangeFits g h
 
-  planned-fits : (is : Plan) → TrapFits (planned t frames own_regs behind is)
-  planned-fits Unknown = fits-answered t (refused ENOSYS) behind behind-fits
-  planned-fits Local = local-fits (reg own_regs 17) (arguments_of own_regs)
-  planned-fits Vm =
+  called-fits : (o : Option SystemCall) → TrapFits (called t frames own_regs behind o)
+  called-fits None = fits-answered t (refused ENOSYS) behind behind-fits
+  called-fits (Some Clone) = clone_call-fits (arguments_of own_regs)
+  called-fits (Some (Local call)) = local-fits call (arguments_of own_regs)
+  called-fits (Some (Memory call)) =
       let p = (thread_of behind.node t).process in
-      decided-fits (decide (process_of behind.node p) v.memory frames (reg own_regs 17) (arguments_of own_regs)) (decide-fits (process_of behind.node p) v.memory frames (low-heap behind.node p behind-fits) (reg own_regs 17) (arguments_of own_regs))
-  planned-fits (Delegated phases) = behind-fits
+      decided-fits (decide (process_of behind.node p) v.memory frames call (arguments_of own_regs)) (decide-fits (process_of behind.node p) v.memory frames (low-heap behind.node p behind-fits) call (arguments_of own_regs))
+  called-fits (Some (File call)) = behind-fits
 
   pub trap-fits : TrapFits (trap t frames v)
   unfolding trap
@@ -233,7 +234,7 @@ module _ (t frames : ℕ) (v : View) (fits : NodeFits v.node) where
 
       go : (o : Option Stop) → TrapFits (trap_of_stop t frames v o)
       go None = fits
-      go (Some Ecall) = planned-fits (plan (reg own_regs 17) (arguments_of own_regs))
+      go (Some Ecall) = called-fits (call_named own_regs)
       go (Some On) = raise On
       go (Some Break) = raise Break
       go (Some Illegal) = raise Illegal

@@ -19,6 +19,8 @@ use Rattle.mck_word.specs.declared.Regs.{Regs}
 use Rattle.offer_laws.proofs.MemoryStays.{dropped-wants, gone-own, quiet-wants, rests-own, wants}
 use Rattle.std.proofs.Common.{refl, ◌∙◌}
 use Rattle.std.specs.Prelude.{Bool, None, Option, Some, cond, false, length, min, pos, true, ℕ, ℤ, ◌%◌, ◌+◌, ◌-◌, ◌==◌, ◌^◌, ◌≡◌}
+use Rattle.system_calls.specs.declared.LocalCall.TheVariants as Calls
+use Rattle.system_calls.specs.declared.LocalCall.{LocalCall}
 
 -- P of what a thread that waits for no change leaves, and of its end; processes may change beside
 pub record Settles (t : ℕ) (P : Node → Type 0) : Type 0 where
@@ -156,24 +158,23 @@ module _ (t : ℕ) (P : Node → Type 0) (k : Settles t P) where
   wait4-own pid status options rusage v = either-view _ _ _ (answers-own (refused EINVAL) v) (either-view _ _ _ (answers-own (refused ENOSYS) v) (either-view _ _ _ (wait_over-own pid status v)
       (either-view _ _ _ (answers-own (pos 0) v) (k.moves v.node (λ x. record x { does = InWait pid status }) (λ x. refl)))))
 
-  calls-own : (number : ℕ) (a : ℕ → ℕ) (v : View) → P (one_of_calls t number a v).node
-  calls-own number a v =
-      either-view _ _ _ (exits-own (exit_code (a 0)) v)
-      (either-view _ _ _ (exits_group-own (exit_code (a 0)) v)
-      (either-view _ _ _ (clear_address-own (a 0) v)
-      (either-view _ _ _ (futex-own (a 0) (a 1) (a 2) (a 3) v)
-      (either-view _ _ _ (robust_list-own (a 1) v)
-      (either-view _ _ _ (answers-own (pos 0) v)
-      (either-view _ _ _ (kill-own (int_argument (a 0)) (int_argument (a 1)) v)
-      (either-view _ _ _ (tgkill-own (int_argument (a 0)) (int_argument (a 1)) (int_argument (a 2)) v)
-      (either-view _ _ _ (sigaction-own (int_argument (a 0)) (a 1) (a 2) (a 3) v)
-      (either-view _ _ _ (sigprocmask-own (int_argument (a 0)) (a 1) (a 2) (a 3) v)
-      (either-view _ _ _ (sigpending-own (a 0) (a 1) v)
-      (either-view _ _ _ (return-own v)
-      (either-view _ _ _ (answers-own (pos (thread_of v.node t).process) v)
-      (either-view _ _ _ (answers-own (pos (parent_number v.node (thread_of v.node t).process)) v)
-      (either-view _ _ _ (answers-own (pos t) v)
-      (wait4-own (int_argument (a 0)) (a 1) (a 2 % 2 ^ 32) (a 3) v)))))))))))))))
+  calls-own : (call : LocalCall) (a : ℕ → ℕ) (v : View) → P (one_of_calls t call a v).node
+  calls-own Calls.Exit a v = exits-own (exit_code (a 0)) v
+  calls-own Calls.ExitGroup a v = exits_group-own (exit_code (a 0)) v
+  calls-own Calls.SetTidAddress a v = clear_address-own (a 0) v
+  calls-own Calls.Futex a v = futex-own (a 0) (a 1) (a 2) (a 3) v
+  calls-own Calls.SetRobustList a v = robust_list-own (a 1) v
+  calls-own Calls.SchedYield a v = answers-own (pos 0) v
+  calls-own Calls.Kill a v = kill-own (int_argument (a 0)) (int_argument (a 1)) v
+  calls-own Calls.Tgkill a v = tgkill-own (int_argument (a 0)) (int_argument (a 1)) (int_argument (a 2)) v
+  calls-own Calls.RtSigaction a v = sigaction-own (int_argument (a 0)) (a 1) (a 2) (a 3) v
+  calls-own Calls.RtSigprocmask a v = sigprocmask-own (int_argument (a 0)) (a 1) (a 2) (a 3) v
+  calls-own Calls.RtSigpending a v = sigpending-own (a 0) (a 1) v
+  calls-own Calls.RtSigreturn a v = return-own v
+  calls-own Calls.Getpid a v = answers-own (pos (thread_of v.node t).process) v
+  calls-own Calls.Getppid a v = answers-own (pos (parent_number v.node (thread_of v.node t).process)) v
+  calls-own Calls.Gettid a v = answers-own (pos t) v
+  calls-own Calls.Wait4 a v = wait4-own (int_argument (a 0)) (a 1) (a 2 % 2 ^ 32) (a 3) v
 
 module _ (t : ℕ) where
   -- the thread waits for no change
@@ -210,8 +211,8 @@ module _ (t : ℕ) where
   pub wait_over-rests : (pid : ℤ) (status : ℕ) (v : View) → Rests (wait_over t pid status v).node
   wait_over-rests pid status v = wait_over-own t Rests rests pid status v
 
-  pub calls-rest : (number : ℕ) (a : ℕ → ℕ) (v : View) → Rests (one_of_calls t number a v).node
-  calls-rest number a v = calls-own t Rests rests number a v
+  pub calls-rest : (call : LocalCall) (a : ℕ → ℕ) (v : View) → Rests (one_of_calls t call a v).node
+  calls-rest call a v = calls-own t Rests rests call a v
 
   -- ---- deliveries
   abbrev pub Same : Node → Node → Type 0

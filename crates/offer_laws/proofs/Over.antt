@@ -12,7 +12,7 @@ use Rattle.hybrid_model.specs.Sides.{state_in, state_of}
 use Rattle.hybrid_model.specs.Tallies.{Each}
 use Rattle.hybrid_model.specs.declared.events.Event.TheVariants.{Run, Trap, Deliver, Intake, Answer, BeginVm, Interrupt, Wait, Reap, Script, Fetch, Assign, Miss, Pin, Copy, Unpin, Act, Park, Unpark, Finish, AckClear}
 use Rattle.hybrid_model.specs.declared.events.Event.{Event}
-use Rattle.ikc_ring.specs.declared.Call.{Call}
+use Rattle.ikc_ring.specs.declared.CallRequest.{CallRequest}
 use Rattle.ikc_ring.specs.declared.Msg.{Msg}
 use Rattle.kernel_model.specs.Nodes.{ScriptLine, has_thread, is_there, thread_of}
 use Rattle.kernel_model.specs.Traps.{line_is, line_may, line_of, may_be_called_back, may_run}
@@ -49,7 +49,7 @@ ring-below zero (ms ∷ rs) e = omega arith
 ring-below (suc r) (ms ∷ rs) e = let a = ring-below r rs e in omega (arith, a)
 
 -- a state of a request that is in no book is Replied
-in-book : (o : Option (ReqState × Call)) → is_parked (state_in o) ≡ true → is_some o ≡ true
+in-book : (o : Option (ReqState × CallRequest)) → is_parked (state_in o) ≡ true → is_some o ≡ true
 in-book None e = absurd (grind (arith, e))
 in-book (Some r) e = refl
 

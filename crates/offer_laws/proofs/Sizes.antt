@@ -28,17 +28,15 @@ use Rattle.hybrid_model.specs.declared.events.Event.{Event}
 use Rattle.ikc_ring.specs.declared.Msg.TheVariants.{Ack, Answer, Clear, Fault, Interrupt, Reply, Request}
 use Rattle.ikc_ring.specs.declared.Msg.{Msg}
 use Rattle.isa_model.specs.Memory.{may_access}
-use Rattle.isa_model.specs.Registers.{reg}
 use Rattle.isa_model.specs.declared.stops.Stop.TheVariants.{Break, Ecall, Illegal, Misaligned, On, Fault as StopFault}
 use Rattle.isa_model.specs.declared.stops.Stop.{Stop}
-use Rattle.kernel_model.specs.Calls.{local_call, one_of_calls}
+use Rattle.kernel_model.specs.Calls.{clone_call, local_call}
 use Rattle.kernel_model.specs.CloneCalls.{CallDone, are_clone_flags, are_fork_flags, clone, clone_or_fork, cloned_thread, clones, forks, with_thread}
 use Rattle.kernel_model.specs.LocalCalls.{refuses, wake}
 use Rattle.kernel_model.specs.MemoryCalls.{Decision, Now, Reply as DecidedReply, Round as DecidedRound, answer_of_change, decide, effect_of, refusal_at_end}
 use Rattle.kernel_model.specs.Nodes.{Node, Process, Sleeper, Thread, change_in, change_process, is_living, most_processes, most_threads, process_of, stop_in, thread_of, threads_of, ready_to_run}
-use Rattle.kernel_model.specs.Plans.{Delegated, Local, Plan, Unknown, Vm, plan}
 use Rattle.kernel_model.specs.Signals.{View, drop_ignored, generate_for_process, on_node, raised, signal_of_stop, store}
-use Rattle.kernel_model.specs.Traps.{Begins, Changes, Done, Forks, Ran, Trapped, arguments_of, called_back, cloned, decided, executed, finishes, life_ended, past_ecall, planned, process_ended, trap, trap_of_stop, wait_of, waited, waited_for}
+use Rattle.kernel_model.specs.Traps.{Begins, Changes, Done, Forks, Ran, Trapped, arguments_of, call_named, called, called_back, cloned, decided, executed, finishes, life_ended, past_ecall, process_ended, trap, trap_of_stop, wait_of, waited, waited_for}
 use Rattle.kernel_model.specs.declared.Change.{Change}
 use Rattle.mck_word.specs.Maps.{collect, count}
 use Rattle.mck_word.specs.Words.{has_bit, little_endian}
@@ -47,6 +45,9 @@ use Rattle.mck_word.specs.declared.Regs.{Regs}
 use Rattle.std.proofs.Common.{ap, arith, refl, ◌∙◌}
 use Rattle.std.proofs.lemmas.Bool.Decides.{nat_tests}
 use Rattle.std.specs.Prelude.{zero, suc, Bool, List, None, Option, Some, [], cond, false, filter, get_or, length, nat_le, nat_lt, not, true, ℕ, ℤ, ◌<◌, ◌==◌, ◌∷◌, ◌≡◌}
+use Rattle.system_calls.specs.declared.LocalCall.{LocalCall}
+use Rattle.system_calls.specs.declared.SystemCall.TheVariants.{Clone, File, Local, Memory}
+use Rattle.system_calls.specs.declared.SystemCall.{SystemCall}
 
 -- ---- cores, workers and rings
 abbrev pub sizes : Here → ℕ × ℕ × ℕ
@@ -209,25 +210,25 @@ module _ (t frames : ℕ) (v : View) where
       go true false e false = (tried (has_bit 20 flags) (may_access v.memory Write parent_tid (length (little_endian 4 n))) parent_tid (little_endian 4 n) behind, grind (arith, nat_tests, e))
       go false c e d = clone-leaves flags stack parent_tid tls child_tid
 
-  local-leaves : (number : ℕ) (arguments : List ℕ) → TrapLeaves v (cloned (local_call t frames number arguments behind))
+  local-leaves : (call : LocalCall) (arguments : List ℕ) → SameBounds v.node (local_call t call arguments behind).node
   unfolding local_call
-  local-leaves number arguments = go (number == 220) (fork-leaves (get_or arguments 0 0) (get_or arguments 1 0) (get_or arguments 2 0) (get_or arguments 3 0) (get_or arguments 4 0))
-    where
-      go : (b : Bool) → TrapLeaves v (cloned (clone_or_fork t frames (get_or arguments 0 0) (get_or arguments 1 0) (get_or arguments 2 0) (get_or arguments 3 0) (get_or arguments 4 0) behind))
-          → TrapLeaves v (cloned (cond b (clone_or_fork t frames (get_or arguments 0 0) (get_or arguments 1 0) (get_or arguments 2 0) (get_or arguments 3 0) (get_or arguments 4 0) behind) (CallDone (one_of_calls t number (λ k. get_or arguments k 0) behind))))
-      go true k = k
-      go false k = calls-closed t SameBounds SameBounds (same-bounds t) number (λ k. get_or arguments k 0) behind
+  local-leaves call arguments = calls-closed t SameBounds SameBounds (same-bounds t) call (λ k. get_or arguments k 0) behind
+
+  clone_call-leaves : (arguments : List ℕ) → TrapLeaves v (cloned (clone_call t frames arguments behind))
+  unfolding clone_call
+  clone_call-leaves arguments = fork-leaves (get_or arguments 0 0) (get_or arguments 1 0) (get_or arguments 2 0) (get_or arguments 3 0) (get_or arguments 4 0)
 
   decided-leaves : (d : Decision) → TrapLeaves v (decided t behind d)
   decided-leaves (DecidedReply answer) = refl
   decided-leaves (Now change) = refl
   decided-leaves (DecidedRound change) = refl
 
-  planned-leaves : (is : Plan) → TrapLeaves v (planned t frames own_regs behind is)
-  planned-leaves Unknown = refl
-  planned-leaves Local = local-leaves (reg own_regs 17) (arguments_of own_regs)
-  planned-leaves Vm = decided-leaves (decide (process_of behind.node (thread_of behind.node t).process) v.memory frames (reg own_regs 17) (arguments_of own_regs))
-  planned-leaves (Delegated phases) = refl
+  called-leaves : (o : Option SystemCall) → TrapLeaves v (called t frames own_regs behind o)
+  called-leaves None = refl
+  called-leaves (Some Clone) = clone_call-leaves (arguments_of own_regs)
+  called-leaves (Some (Local call)) = local-leaves call (arguments_of own_regs)
+  called-leaves (Some (Memory call)) = decided-leaves (decide (process_of behind.node (thread_of behind.node t).process) v.memory frames call (arguments_of own_regs))
+  called-leaves (Some (File call)) = refl
 
   pub trap-leaves : TrapLeaves v (trap t frames v)
   unfolding trap
@@ -238,7 +239,7 @@ module _ (t frames : ℕ) (v : View) where
 
       go : (o : Option Stop) → TrapLeaves v (trap_of_stop t frames v o)
       go None = refl
-      go (Some Ecall) = planned-leaves (plan (reg own_regs 17) (arguments_of own_regs))
+      go (Some Ecall) = called-leaves (call_named own_regs)
       go (Some On) = raise On
       go (Some Break) = raise Break
       go (Some Illegal) = raise Illegal

@@ -3,7 +3,7 @@ use Rattle.hybrid_model.specs.Pairs.{Pair, side_of}
 use Rattle.kernel_model.specs.Nodes.{Process, Thread, has_process, instructions_in_all, most_processes}
 use Rattle.mck_word.specs.Maps.{at, count}
 use Rattle.offer_laws.specs.ChangeFits.{MemoryFits}
-use Rattle.std.specs.Prelude.{false, Some, ℕ, ◌-◌, ◌<◌, ◌≡◌, ◌≤◌, ◌^◌}
+use Rattle.std.specs.Prelude.{false, Some, ℕ, ◌<◌, ◌≡◌, ◌≤◌, ◌^◌}
 
 abbrev pub most_instructions : ℕ
 most_instructions = 4_000_000

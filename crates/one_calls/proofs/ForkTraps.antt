@@ -2,18 +2,16 @@
 use Rattle.file_model.specs.Errno.{EAGAIN, ENOMEM}
 use Rattle.file_model.specs.Files.{share}
 use Rattle.isa_model.specs.Memory.{Memory, may_access, put_byte, write_bytes}
-use Rattle.isa_model.specs.Registers.{reg}
 use Rattle.isa_model.specs.declared.stops.Stop.{Stop}
 use Rattle.isa_model.specs.declared.stops.Stop.TheVariants.{Break, Ecall, Fault, Illegal, Misaligned, On}
-use Rattle.kernel_model.specs.Calls.{local_call}
-use Rattle.kernel_model.specs.CloneCalls.{CallDone, are_fork_flags, child_stores, fork, forks}
+use Rattle.kernel_model.specs.Calls.{clone_call}
+use Rattle.kernel_model.specs.CloneCalls.{CallDone, child_stores, fork, forks}
 use Rattle.kernel_model.specs.LocalCalls.{answers, refuses}
 use Rattle.kernel_model.specs.Nodes.{most_processes, stop_in, thread_of}
 use Rattle.kernel_model.specs.OneKernel.{OneHere}
-use Rattle.kernel_model.specs.Plans.{plan}
 use Rattle.kernel_model.specs.Signals.{Store, View, stored_all}
 use Rattle.kernel_model.specs.Steps.{one_trap, one_trapped, one_view}
-use Rattle.kernel_model.specs.Traps.{Forks, Trapped, arguments_of, cloned, past_ecall, planned, trap, trap_of_stop}
+use Rattle.kernel_model.specs.Traps.{Forks, Trapped, arguments_of, call_named, called, cloned, past_ecall, trap, trap_of_stop}
 use Rattle.kernel_tables.specs.Shown.{node_of}
 use Rattle.kernel_tables.specs.declared.tables.KernelTables.{KernelTables}
 use Rattle.mck_word.specs.Maps.{Map, at, change, change_row, count, no_rows}
@@ -22,32 +20,27 @@ use Rattle.mck_word.specs.declared.Access.TheVariants.{Write}
 use Rattle.mck_word.specs.declared.Pid.{Pid}
 use Rattle.mck_word.specs.declared.Regs.{Regs}
 use Rattle.one_calls.specs.Here.{Rest, here, here_with}
-use Rattle.one_calls.specs.LocalTraps.{calls_fork, forks_at, names_fork}
+use Rattle.one_calls.specs.LocalTraps.{calls_fork, forks_at, is_fork}
 use Rattle.one_calls.specs.Words.{fork_refusal, told}
 use Rattle.std.proofs.Common.{ap, arith, refl, sym, ◌∙◌}
-use Rattle.std.proofs.lemmas.Bool.Decides.{nat_tests}
 use Rattle.std.specs.Cmp.{nat_cmp_total}
 use Rattle.std.specs.FinMap as finmap
-use Rattle.std.specs.Prelude.{Bool, List, None, Option, Some, [], cond, false, get_or, is_some, nat_le, nat_lt, true, ℕ, ℤ, ◌&&◌, ◌+◌, ◌-◌, ◌∷◌, ◌==◌, ◌≡◌}
-
-both : (x y : Bool) → (x && y) ≡ true → (x ≡ true) × (y ≡ true)
-both true true e = (e, e)
-both true false e = absurd (grind (arith, e))
-both false y e = absurd (grind (arith, e))
+use Rattle.std.specs.Prelude.{Bool, List, None, Option, Some, [], cond, false, get_or, is_some, nat_le, nat_lt, true, ℕ, ℤ, ◌&&◌, ◌+◌, ◌-◌, ◌∷◌, ◌≡◌}
+use Rattle.system_calls.specs.declared.SystemCall.{SystemCall}
+use Rattle.system_calls.specs.declared.SystemCall.TheVariants.{Clone, File, Local, Memory as MemoryCall}
 
 -- ---- the trap
 module _ (t free : ℕ) (r : Regs) where
   abbrev a : ℕ → ℕ
   a k = get_or (arguments_of r) k 0
 
-  by-number : (v : View) → names_fork r ≡ true → planned t free r v (plan (reg r 17) (arguments_of r)) ≡ cloned (fork t free (a 0) (a 1) (a 2) (a 3) (a 4) v)
-  unfolding local_call
-  by-number v e =
-      let x = both (reg r 17 == 220) (are_fork_flags (a 0)) e in
-      let n : reg r 17 ≡ 220 = grind (arith, nat_tests, x.0) in
-      let f = x.0 in
-      let g = x.1 in
-      ap (λ k. planned t free r v (plan k (arguments_of r))) n ∙ rw (f, g) refl
+  by-name : (v : View) (o : Option SystemCall) → is_fork o (a 0) ≡ true → called t free r v o ≡ cloned (fork t free (a 0) (a 1) (a 2) (a 3) (a 4) v)
+  unfolding clone_call
+  by-name v None e = absurd (grind (arith, e))
+  by-name v (Some (Local call)) e = absurd (grind (arith, e))
+  by-name v (Some (MemoryCall call)) e = absurd (grind (arith, e))
+  by-name v (Some (File call)) e = absurd (grind (arith, e))
+  by-name v (Some Clone) e = rw e refl
 
 module _ (p t : ℕ) (h : OneHere) where
   abbrev regs : Regs
@@ -63,7 +56,7 @@ module _ (p t : ℕ) (h : OneHere) where
   by-stop (Some Illegal) e = absurd (grind (arith, e))
   by-stop (Some Misaligned) e = absurd (grind (arith, e))
   by-stop (Some (Fault l)) e = absurd (grind (arith, e))
-  by-stop (Some Ecall) e = by-number t h.free regs (past_ecall t (one_view h)) e
+  by-stop (Some Ecall) e = by-name t h.free regs (past_ecall t (one_view h)) (call_named regs) e
 
   pub fork-trap : calls_fork h.node t ≡ true → one_trapped p t (cloned (fork t h.free (b 0) (b 1) (b 2) (b 3) (b 4) (past_ecall t (one_view h)))) h ≡ one_trap p t h
   unfolding one_trap trap

@@ -2,20 +2,18 @@
 use Rattle.isa_model.specs.declared.stops.Stop.{Stop}
 use Rattle.isa_model.specs.declared.stops.Stop.TheVariants.{Break, Ecall, Fault, Illegal, Misaligned, On}
 use Rattle.isa_model.specs.Memory.{Memory}
-use Rattle.kernel_model.specs.Calls.{local_call, one_of_calls}
-use Rattle.kernel_model.specs.CloneCalls.{CallDone, are_fork_flags, clone, fork}
+use Rattle.kernel_model.specs.Calls.{clone_call}
+use Rattle.kernel_model.specs.CloneCalls.{are_fork_flags, clone}
 use Rattle.kernel_model.specs.Nodes.{stop_in, thread_of}
 use Rattle.kernel_model.specs.OneKernel.{OneHere}
 use Rattle.kernel_model.specs.Signals.{View, on_node, raised, signal_of_stop}
 use Rattle.kernel_model.specs.Steps.{one_trap, one_trapped, one_view, with_view}
 use Rattle.kernel_model.specs.Traps.{Done, cloned, trap, trap_of_stop}
 use Rattle.kernel_tables.specs.declared.tables.KernelTables.{KernelTables}
-use Rattle.one_calls.specs.Calls.{one_call}
 use Rattle.one_calls.specs.Here.{Rest, here}
-use Rattle.one_calls.specs.LocalTraps.{is_fork}
 use Rattle.one_calls.specs.Views.{Did, DidAlone}
-use Rattle.std.proofs.Common.{ap, arith, refl, sym}
-use Rattle.std.specs.Prelude.{Bool, List, None, Option, Some, cond, false, get_or, true, ℕ, ◌&&◌, ◌==◌, ◌≡◌, ◌≢◌}
+use Rattle.std.proofs.Common.{ap, refl, sym}
+use Rattle.std.specs.Prelude.{List, None, Option, Some, false, get_or, ℕ, ◌≡◌, ◌≢◌}
 
 -- a step on a view is the step of the process
 pub did-here : (before : KernelTables) (m : Memory) (after : KernelTables) (left : Memory) (word : View → View) → Did before m after left word
@@ -32,23 +30,12 @@ pub alone-here : (before : KernelTables) (m : Memory) (after : KernelTables) (wo
     → (r : Rest) → here after m r ≡ with_view (word (one_view (here before m r))) (here before m r)
 alone-here before m after word d r = ap (λ (v : View). with_view v (here before m r)) (d r.files m)
 
--- ---- a local call that is no fork
+-- ---- a clone that is no fork
 
-pub local-done : (t free number : ℕ) (args : List ℕ) (v : View) → is_fork number (get_or args 0 0) ≡ false → cloned (local_call t free number args v) ≡ Done (one_call t number args v)
-unfolding local_call
-local-done t free number args v other = go (number == 220) (are_fork_flags (get_or args 0 0)) other
-  where
-    cloning : View
-    cloning = clone t (get_or args 0 0) (get_or args 1 0) (get_or args 2 0) (get_or args 3 0) (get_or args 4 0) v
-
-    rest : View
-    rest = one_of_calls t number (λ k. get_or args k 0) v
-
-    go : (b f : Bool) → (b && f) ≡ false
-        → cloned (cond b (cond f (fork t free (get_or args 0 0) (get_or args 1 0) (get_or args 2 0) (get_or args 3 0) (get_or args 4 0) v) (CallDone cloning)) (CallDone rest)) ≡ Done (cond b cloning rest)
-    go true true e = absurd (grind (arith, e))
-    go true false e = refl
-    go false f e = refl
+pub clone-done : (t free : ℕ) (args : List ℕ) (v : View) → are_fork_flags (get_or args 0 0) ≡ false
+    → cloned (clone_call t free args v) ≡ Done (clone t (get_or args 0 0) (get_or args 1 0) (get_or args 2 0) (get_or args 3 0) (get_or args 4 0) v)
+unfolding clone_call
+clone-done t free args v other = rw other refl
 
 -- ---- stops
 

@@ -8,7 +8,8 @@ use Rattle.mck_word.specs.Maps.{Map, no_rows}
 use Rattle.mck_word.specs.declared.Pid.{Pid}
 use Rattle.std.specs.Prelude.{None, Option, Some, ℕ, ◌-◌}
 
--- what the tables and the memory don't hold: the files, the calls of the process's threads, and how many frames are free
+-- what the tables and the memory don't hold: the files, the calls of the process's threads, and how many frames are
+-- free
 pub record Rest : Type 0 where
   pub files : Files
   pub calls : Map Call
@@ -17,7 +18,8 @@ pub record Rest : Type 0 where
 abbrev pub here : KernelTables → Memory → Rest → OneHere
 here node m r = record { own = record { memory = m; calls = r.calls }; node = node_of node r.files; free = r.free; born = None }
 
--- beside it the process that a fork makes, if it does, which has its parent's descriptors, and takes as many frames as its parent had pages
+-- beside it the process that a fork makes, if it does, which has its parent's descriptors, and takes as many frames as
+-- its parent had pages
 abbrev pub here_with : KernelTables → Memory → Memory → ℕ → ℕ → Option Pid → Rest → OneHere
 here_with node m child pages p None r = here node m r
 here_with node m child pages p (Some q) r = record (here node m (record r { files = share p q.0 r.files; free = r.free - pages })) { born = Some (q.0, record { memory = child; calls = no_rows }) }

@@ -11,8 +11,8 @@ use Rattle.std.specs.Prelude.{◌≡◌}
 abbrev pub seen : KernelTables → Memory → Files → View
 seen node m files = view (node_of node files) m
 
--- The tables and the memory after a step are those that its word makes of what they showed before: the node is the word's, and the
--- memory is the one before with the word's stores in it, one after another.
+-- The tables and the memory after a step are those that its word makes of what they showed before: the node is the
+-- word's, and the memory is the one before with the word's stores in it, one after another.
 pub record Did (before : KernelTables) (m : Memory) (after : KernelTables) (left : Memory) (word : View → View) : Type 0 where
   pub node : (files : Files) → node_of after files ≡ (word (seen before m files)).node
   pub memory : (files : Files) → left ≡ stored_all (word (seen before m files)).stores m

@@ -5,13 +5,13 @@ ghost use Rattle.one_calls.specs.SignalWords.{asked_action, given_action, is_wro
 ghost use Rattle.one_calls.specs.Views.{Did, Stepped};
 ghost use Rattle.std.specs.Prelude.{◌≡◌, ◌≤◌, ◌==◌, cond, true};
 
-use crate::answering::{EFAULT, EINVAL};
 use crate::pointers::{lacks_access, store_at};
 use kernel_model::Action;
 use kernel_tables::KernelTables;
 use lwk_signals::{ACTION_SIZE, action_in, put_action};
 use mck_word::{Pid, Tid};
 use one_memory::PageRows;
+use system_calls::errors::{EFAULT, EINVAL};
 
 /// Whether the number is a signal's; one whose action is given isn't 9 or 19.
 fn is_signal(signal: i32, act: u64) -> bool

@@ -7,11 +7,12 @@ ghost use Rattle.one_calls.specs.Resting.{MayClone};
 ghost use Rattle.one_calls.specs.Views.{Did};
 ghost use Rattle.std.specs.Prelude.{◌≡◌, ◌<◌, length, slice_index};
 
-use crate::answering::{EAGAIN, EINVAL, has_bit, minus};
+use crate::bits::{has_bit, minus};
 use crate::numbers::tells_number;
 use kernel_tables::KernelTables;
 use mck_word::Tid;
 use one_memory::PageRows;
+use system_calls::errors::{EAGAIN, EINVAL};
 
 const MOST_THREADS: u32 = 16;
 
@@ -23,7 +24,8 @@ pub const PARENT_SETTID: u32 = 20;
 
 pub const CHILD_SETTID: u32 = 24;
 
-/// Whether the flags are those of a clone that makes a thread: VM, FS, FILES, SIGHAND and THREAD stand, and nothing unknown.
+/// Whether the flags are those of a clone that makes a thread: VM, FS, FILES, SIGHAND and THREAD stand, and nothing
+/// unknown.
 fn are_clone_flags(flags: u64) -> bool
     ensures { result ≡ are_clone_flags flags }
 {
@@ -49,8 +51,8 @@ fn clones(node: &mut KernelTables, memory: &mut PageRows, t: Tid, args: &[u64; 6
     node.answered(t, number.0 as i64);
 }
 
-/// clone, where the flags aren't those of a fork: a thread begins beside the caller, by the arguments flags, stack, parent tid, tls and
-/// child tid.
+/// clone, where the flags aren't those of a fork: a thread begins beside the caller, by the arguments flags, stack,
+/// parent tid, tls and child tid.
 pub fn clone(node: &mut KernelTables, memory: &mut PageRows, t: Tid, args: &[u64; 6])
     requires { MayClone node.old t.0 }
     ensures { Did node.old memory.old.map node.new memory.new.map (clone t.0 (slice_index args.now 0) (slice_index args.now 1) (slice_index args.now 2) (slice_index args.now 3) (slice_index args.now 4)) }

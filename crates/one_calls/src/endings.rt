@@ -17,7 +17,8 @@ fn clear_word(node: &mut KernelTables, memory: &mut PageRows, p: Pid, address: u
     }
 }
 
-/// A thread of the process leaves with the code; where it is the last, the process dies with the code of its first thread.
+/// A thread of the process leaves with the code; where it is the last, the process dies with the code of its first
+/// thread.
 fn leaves(node: &mut KernelTables, t: Tid, p: Pid, code: u8)
     ensures { Stepped node.old node.new (leaves t.0 p.0 code) }
 {

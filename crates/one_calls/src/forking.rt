@@ -10,12 +10,13 @@ ghost use Rattle.one_calls.specs.Views.{seen};
 ghost use Rattle.one_calls.specs.Words.{begins_child, fork_refusal, told};
 ghost use Rattle.std.specs.Prelude.{◌≡◌, slice_index};
 
-use crate::answering::{EAGAIN, ENOMEM, has_bit, minus};
+use crate::bits::{has_bit, minus};
 use crate::cloning::{CHILD_SETTID, PARENT_SETTID};
 use crate::numbers::tells_number;
 use kernel_tables::KernelTables;
 use mck_word::{Pid, Tid};
 use one_memory::PageRows;
+use system_calls::errors::{EAGAIN, ENOMEM};
 
 const MOST_PROCESSES: usize = 1024;
 
@@ -45,8 +46,8 @@ pub fn fork_refusal(processes: usize, free: u64, pages: u64) -> Option<i64>
     }
 }
 
-/// A fork that isn't refused, by the arguments flags, stack, parent tid, tls and child tid: a process and its first thread begin, the
-/// parent is told the number, and the caller is answered it.
+/// A fork that isn't refused, by the arguments flags, stack, parent tid, tls and child tid: a process and its first
+/// thread begin, the parent is told the number, and the caller is answered it.
 pub fn begins_child(node: &mut KernelTables, memory: &mut PageRows, t: Tid, args: &[u64; 6]) -> Pid
     requires { MayFork node.old t.0 }
     ensures number { (files : Files) → result.0 ≡ (node_of node.old files).next_number }

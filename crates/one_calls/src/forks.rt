@@ -13,9 +13,8 @@ ghost use Rattle.one_calls.specs.Resting.{MayFork};
 ghost use Rattle.one_calls.specs.Views.{DidAlone};
 ghost use Rattle.std.specs.Prelude.{◌≡◌, ◌≤◌, Some, slice_index, true};
 
-use crate::calls::arguments_of;
 use crate::forking::{begins_child, fork_refusal, tells_child};
-use kernel_tables::KernelTables;
+use kernel_tables::{KernelTables, arguments_of};
 use mck_word::{Pid, Tid};
 use one_memory::PageRows;
 
@@ -50,8 +49,8 @@ fn refuses_fork(node: &mut KernelTables, t: Tid, answer: i64)
     node.answered(t, answer);
 }
 
-/// The trap of a thread of the process that is a fork, with so many frames free. It answers the number of the process that begins, whose
-/// memory is then `unborn`, and None where the fork is refused.
+/// The trap of a thread of the process that is a fork, with so many frames free. It answers the number of the process
+/// that begins, whose memory is then `unborn`, and None where the fork is refused.
 pub fn fork(
     node: &mut KernelTables,
     memory: &mut PageRows,

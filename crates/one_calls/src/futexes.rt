@@ -6,12 +6,13 @@ ghost use Rattle.one_calls.specs.Views.{Did, DidAlone};
 ghost use Rattle.one_calls.specs.Words.{wait_refusal};
 ghost use Rattle.std.specs.Prelude.{◌≡◌};
 
-use crate::answering::{EAGAIN, EFAULT, EINVAL, ENOSYS, minus};
+use crate::bits::minus;
 use crate::numbers::word_at;
-use call_plan::arguments::int;
+use call_phases::arguments::int;
 use kernel_tables::KernelTables;
 use mck_word::Tid;
 use one_memory::PageRows;
+use system_calls::errors::{EAGAIN, EFAULT, EINVAL, ENOSYS};
 
 const WAIT: u64 = 0;
 
@@ -19,8 +20,8 @@ const WAKE: u64 = 1;
 
 const PRIVATE: u64 = 128;
 
-/// Why a wait at the address is refused: the address is no multiple of four, a timeout is given, the number there can't be read, or it
-/// is another than `val`.
+/// Why a wait at the address is refused: the address is no multiple of four, a timeout is given, the number there
+/// can't be read, or it is another than `val`.
 fn wait_refusal(memory: &PageRows, address: u64, val: u64, timeout: u64) -> Option<i64>
     ensures { result ≡ wait_refusal memory.now.map address val timeout }
 {
@@ -82,7 +83,8 @@ fn futex_operation(op: u64) -> u64
     minus(op % (1 << 32), PRIVATE)
 }
 
-/// futex: the thread sleeps at the address or wakes others there. It sleeps nowhere itself, and fewer than sixteen sleep there.
+/// futex: the thread sleeps at the address or wakes others there. It sleeps nowhere itself, and fewer than sixteen
+/// sleep there.
 pub fn futex(
     node: &mut KernelTables,
     memory: &PageRows,

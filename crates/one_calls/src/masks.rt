@@ -7,13 +7,13 @@ ghost use Rattle.one_calls.specs.SignalWords.{asked_set, given_mask, readable, w
 ghost use Rattle.one_calls.specs.Views.{Did, Stepped};
 ghost use Rattle.std.specs.Prelude.{◌≡◌, ◌≤◌, ◌==◌, cond, true};
 
-use crate::answering::{EFAULT, EINVAL};
 use crate::pointers::{lacks_access, store_at};
 use kernel_tables::KernelTables;
 use lwk_signals::{SET_SIZE, put_set, set_in};
 use mck_flags::SigSet;
 use mck_word::Tid;
 use one_memory::PageRows;
+use system_calls::errors::{EFAULT, EINVAL};
 
 /// Whether the number says how a mask is changed.
 fn is_how(how: i32) -> bool

@@ -7,10 +7,13 @@ ghost use Rattle.kernel_tables.specs.Shown.{node_of};
 ghost use Rattle.one_calls.specs.Views.{DidAlone, Stepped};
 ghost use Rattle.std.specs.Prelude.{◌&&◌, ◌≡◌, ◌≤◌, MatchOption};
 
-use crate::answering::{EINVAL, ESRCH};
 use kernel_tables::KernelTables;
 use lwk_signals::may_be_sent;
 use mck_word::{Pid, Tid};
+use system_calls::errors::EINVAL;
+
+// The refusal where there is no such process or thread.
+const ESRCH: i64 = -3;
 
 /// A number of a process or thread: it is positive.
 fn positive(n: i32) -> Option<u32>

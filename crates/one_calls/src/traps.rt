@@ -1,32 +1,32 @@
 // Traps of stopped threads that are local.
 ghost use Rattle.file_model.specs.Files.{Files};
-ghost use Rattle.isa_model.specs.Registers.{reg};
 ghost use Rattle.isa_model.specs.declared.stops.Stop.TheVariants as stops;
 ghost use Rattle.kernel_model.specs.Nodes.{thread_of};
-ghost use Rattle.kernel_model.specs.Plans as plans;
 ghost use Rattle.kernel_model.specs.Steps.{one_trap, one_trapped, one_view};
-ghost use Rattle.kernel_model.specs.Traps.{arguments_of as arguments_in, past_ecall, planned, trap_of_stop};
+ghost use Rattle.kernel_model.specs.Traps.{call_named as call_in, called, past_ecall, trap_of_stop};
 ghost use Rattle.kernel_tables.specs.Shown.{node_of};
 ghost use Rattle.one_calls.specs.Here.{Rest, here};
 ghost use Rattle.one_calls.specs.LocalTraps.{calls_fork, names_fork, names_local, stops_locally, traps_locally};
 ghost use Rattle.one_calls.specs.Resting.{MayClone, MayRest};
 ghost use Rattle.std.specs.Prelude.{◌≡◌, Some, true, ℕ};
+ghost use Rattle.system_calls.specs.declared.LocalCall.TheVariants.{Futex};
+ghost use Rattle.system_calls.specs.declared.SystemCall.TheVariants.{Clone, Local};
 
-use crate::calls::{CLONE, arguments_of, call_number, calls_locally, refuses_call};
+use crate::calls::{calls_clone, calls_locally, refuses_call};
 use crate::forking::are_fork_flags;
 use crate::raising::raises;
-use call_plan::{Plan, plan};
 use isa_model::Stop;
 use kernel_model::Does;
-use kernel_tables::KernelTables;
+use kernel_tables::{KernelTables, arguments_of, call_named};
 use mck_word::{Regs, Tid};
 use one_memory::PageRows;
+use system_calls::SystemCall;
 
 /// Whether the call that the registers name is a fork.
 pub fn names_fork(regs: &Regs) -> bool
     ensures { result ≡ names_fork regs.now }
 {
-    call_number(regs) == CLONE && are_fork_flags(arguments_of(regs)[0])
+    matches!(call_named(regs), Some(SystemCall::Clone)) && are_fork_flags(arguments_of(regs)[0])
 }
 
 /// Whether the trap of the thread is a fork.
@@ -39,14 +39,14 @@ pub fn calls_fork(node: &KernelTables, t: Tid) -> bool
     }
 }
 
-/// Whether the call that the registers name isn't known, or is local and no fork.
+/// Whether the call that the registers name isn't known, or is local, or a clone that is no fork.
 fn names_local(regs: &Regs) -> bool
     ensures { result ≡ names_local regs.now }
 {
-    match plan(call_number(regs), &arguments_of(regs)) {
-        Plan::Unknown => true,
-        Plan::Local => !names_fork(regs),
-        _ => false,
+    match call_named(regs) {
+        None | Some(SystemCall::Local(_)) => true,
+        Some(SystemCall::Clone) => !are_fork_flags(arguments_of(regs)[0]),
+        Some(SystemCall::Memory(_) | SystemCall::File(_)) => false,
     }
 }
 
@@ -61,28 +61,27 @@ pub fn traps_locally(node: &KernelTables, t: Tid) -> bool
     }
 }
 
-/// The call that the registers of the thread name, where it isn't known, or is local and no fork.
+/// The call that the registers of the thread name, where it isn't known, or is local, or a clone that is no fork.
 fn call(node: &mut KernelTables, memory: &mut PageRows, t: Tid, regs: &Regs)
     requires local { names_local regs.now ≡ true }
-    requires rest { reg regs.now 17 ≡ 98 → MayRest node.old t.0 }
-    requires clone { reg regs.now 17 ≡ 220 → MayClone node.old t.0 }
+    requires rest { call_in regs.now ≡ Some (Local Futex) → MayRest node.old t.0 }
+    requires clone { call_in regs.now ≡ Some Clone → MayClone node.old t.0 }
     ensures { (p : ℕ) (r : Rest) → here node.new memory.new.map r ≡ (let h = here node.old memory.old.map r in
-        one_trapped p t.0 (planned t.0 h.free regs.now (past_ecall t.0 (one_view h)) (plans.plan (reg regs.now 17) (arguments_in regs.now))) h) }
+        one_trapped p t.0 (called t.0 h.free regs.now (past_ecall t.0 (one_view h)) (call_in regs.now)) h) }
 {
-    let number = call_number(regs);
-    let args = arguments_of(regs);
-    match plan(number, &args) {
-        Plan::Unknown => refuses_call(node, t),
-        Plan::Local => calls_locally(node, memory, t, number, &args),
-        Plan::Memory | Plan::Delegated(_) => unreachable!(),
+    match call_named(regs) {
+        None => refuses_call(node, t),
+        Some(SystemCall::Clone) => calls_clone(node, memory, t, &arguments_of(regs)),
+        Some(SystemCall::Local(call)) => calls_locally(node, memory, t, call, &arguments_of(regs)),
+        Some(SystemCall::Memory(_) | SystemCall::File(_)) => unreachable!(),
     }
 }
 
 /// The local trap of a thread that stopped so.
 fn trap_of_stop(node: &mut KernelTables, memory: &mut PageRows, t: Tid, stop: Stop)
     requires local { (files : Files) → stops_locally (thread_of (node_of node.old files) t.0).regs (Some stop) ≡ true }
-    requires rest { (files : Files) → reg (thread_of (node_of node.old files) t.0).regs 17 ≡ 98 → MayRest node.old t.0 }
-    requires clone { (files : Files) → reg (thread_of (node_of node.old files) t.0).regs 17 ≡ 220 → MayClone node.old t.0 }
+    requires rest { (files : Files) → call_in (thread_of (node_of node.old files) t.0).regs ≡ Some (Local Futex) → MayRest node.old t.0 }
+    requires clone { (files : Files) → call_in (thread_of (node_of node.old files) t.0).regs ≡ Some Clone → MayClone node.old t.0 }
     ensures { (p : ℕ) (r : Rest) → here node.new memory.new.map r ≡ (let h = here node.old memory.old.map r in
         one_trapped p t.0 (trap_of_stop t.0 h.free (one_view h) (Some stop)) h) }
 {
@@ -98,8 +97,8 @@ fn trap_of_stop(node: &mut KernelTables, memory: &mut PageRows, t: Tid, stop: St
 /// The trap of a thread, where it is local and no fork.
 pub fn trap(node: &mut KernelTables, memory: &mut PageRows, t: Tid)
     requires local { (files : Files) → traps_locally (node_of node.old files) t.0 ≡ true }
-    requires rest { (files : Files) → reg (thread_of (node_of node.old files) t.0).regs 17 ≡ 98 → MayRest node.old t.0 }
-    requires clone { (files : Files) → reg (thread_of (node_of node.old files) t.0).regs 17 ≡ 220 → MayClone node.old t.0 }
+    requires rest { (files : Files) → call_in (thread_of (node_of node.old files) t.0).regs ≡ Some (Local Futex) → MayRest node.old t.0 }
+    requires clone { (files : Files) → call_in (thread_of (node_of node.old files) t.0).regs ≡ Some Clone → MayClone node.old t.0 }
     ensures { (p : ℕ) (r : Rest) → here node.new memory.new.map r ≡ one_trap p t.0 (here node.old memory.old.map r) }
 {
     let Does::Stopped(stop) = node.does(t) else {

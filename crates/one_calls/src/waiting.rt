@@ -4,12 +4,13 @@ ghost use Rattle.kernel_model.specs.Traps.{waited};
 ghost use Rattle.one_calls.specs.Views.{Did, DidAlone};
 ghost use Rattle.std.specs.Prelude.{◌≡◌};
 
-use crate::answering::{ECHILD, EFAULT, EINVAL, ENOSYS, has_bit, minus};
+use crate::bits::{has_bit, minus};
 use crate::numbers::store_number;
 use kernel_model::{Does, Life};
 use kernel_tables::KernelTables;
 use mck_word::{End, Pid, Tid};
 use one_memory::PageRows;
+use system_calls::errors::{ECHILD, EFAULT, EINVAL, ENOSYS};
 
 // WNOHANG, WUNTRACED and WCONTINUED.
 const KNOWN_OPTIONS: u64 = 11;

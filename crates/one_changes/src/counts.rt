@@ -3,11 +3,13 @@ ghost use Rattle.kernel_model.specs.MemoryCalls.{any_lessened, count_present, la
 ghost use Rattle.mck_word.specs.Maps.{at};
 ghost use Rattle.one_changes.specs.Lessened.{lessened_in};
 ghost use Rattle.std.specs.Prelude.{◌≡◌};
+ghost use Rattle.system_calls.specs.declared.MemoryCall.TheVariants.{Mprotect};
 
 use isa_model::allows;
 use mck_flags::Rights;
 use mck_word::{Access, PageRange};
 use one_memory::PageRows;
+use system_calls::MemoryCall;
 
 /// How many pages of the range are present.
 pub fn count_present(memory: &PageRows, r: &PageRange) -> u64
@@ -51,7 +53,7 @@ fn is_lessened(memory: &PageRows, page: u64, rights: Rights) -> bool
 }
 
 /// Whether a page of the range would lose a right.
-pub fn lessens_any(memory: &PageRows, r: &PageRange, rights: Rights) -> bool
+fn lessens_any(memory: &PageRows, r: &PageRange, rights: Rights) -> bool
     ensures { result ≡ any_lessened memory.now.map r.now rights }
 {
     let mut from = r.lo;
@@ -65,6 +67,16 @@ pub fn lessens_any(memory: &PageRows, r: &PageRange, rights: Rights) -> bool
         from = page + 1;
     }
     false
+}
+
+/// Whether the call is an mprotect by which a page of the range would lose a right.
+pub fn call_lessens(memory: &PageRows, call: MemoryCall, r: &PageRange, rights: Rights) -> bool
+    ensures { call ≡ Mprotect → result ≡ any_lessened memory.now.map r.now rights }
+{
+    match call {
+        MemoryCall::Mprotect => lessens_any(memory, r, rights),
+        MemoryCall::Mmap | MemoryCall::Munmap | MemoryCall::Brk => false,
+    }
 }
 
 /// The rights of PROT bits: a page with the write right also has the read right.

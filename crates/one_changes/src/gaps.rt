@@ -1,13 +1,14 @@
 // The highest gap for a call that maps anywhere.
+ghost use Rattle.kernel_model.specs.CallPhases.{argument};
 ghost use Rattle.kernel_model.specs.MemoryCalls.{highest_gap};
 ghost use Rattle.kernel_model.specs.Pages.{page_end};
 ghost use Rattle.one_changes.specs.Between.{gap_between};
 ghost use Rattle.std.specs.Option.{ForSome};
 ghost use Rattle.std.specs.Prelude.{◌≡◌, ◌+◌, ◌<◌, ◌≤◌, ◌^◌, option_map, true};
-ghost use Rattle.vm_calls.specs.Plans.{argument, looks_for_gap};
+ghost use Rattle.vm_calls.specs.Deciding.{looks_for_gap};
 
-use ikc_ring::Call;
 use one_memory::PageRows;
+use system_calls::MemoryCall;
 
 /// The lowest page that may be mapped.
 const LOWEST: u64 = 0x10;
@@ -27,11 +28,11 @@ pub fn page_end(a: u64) -> u64
 }
 
 /// Whether the call is an mmap of some bytes without FIXED for which there are frames.
-fn looks_for_gap(free: u64, call: &Call) -> bool
-    ensures { result ≡ looks_for_gap free call.now.number call.now.args }
+fn looks_for_gap(free: u64, call: MemoryCall, args: &[u64; 6]) -> bool
+    ensures { result ≡ looks_for_gap free call args.now }
 {
-    let fixed = call.args[3] % (1 << 32) / 16 % 2 == 1;
-    call.number == 222 && call.args[1] != 0 && !fixed && page_end(call.args[1]) <= free
+    let fixed = args[3] % (1 << 32) / 16 % 2 == 1;
+    matches!(call, MemoryCall::Mmap) && args[1] != 0 && !fixed && page_end(args[1]) <= free
 }
 
 /// The first of so many pages that end at `end`, where they begin at `low` or above.
@@ -46,7 +47,8 @@ fn gap_between(low: u64, end: u64, pages: u64) -> Option<u64>
     }
 }
 
-/// The first page of the highest gap of so many pages: looked for between each present page and the next one above it, from the top.
+/// The first page of the highest gap of so many pages: looked for between each present page and the next one above it,
+/// from the top.
 fn highest_gap(memory: &PageRows, pages: u64) -> Option<u64>
     ensures low { ForSome result (λ low. low < 2 ^ 52) }
     ensures gap { option_map (λ low. low + pages) result ≡ highest_gap memory.now.map pages }
@@ -66,12 +68,12 @@ fn highest_gap(memory: &PageRows, pages: u64) -> Option<u64>
 }
 
 /// The first page of the highest gap, where the call looks for one.
-pub fn gap_for(memory: &PageRows, free: u64, call: &Call) -> Option<u64>
+pub fn gap_for(memory: &PageRows, free: u64, call: MemoryCall, args: &[u64; 6]) -> Option<u64>
     ensures low { ForSome result (λ low. low < 2 ^ 52) }
-    ensures gap { looks_for_gap free call.now.number call.now.args ≡ true → option_map (λ low. low + page_end (argument call.now.args 1)) result ≡ highest_gap memory.now.map (page_end (argument call.now.args 1)) }
+    ensures gap { looks_for_gap free call args.now ≡ true → option_map (λ low. low + page_end (argument args.now 1)) result ≡ highest_gap memory.now.map (page_end (argument args.now 1)) }
 {
-    if looks_for_gap(free, call) {
-        highest_gap(memory, page_end(call.args[1]))
+    if looks_for_gap(free, call, args) {
+        highest_gap(memory, page_end(args[1]))
     } else {
         None
     }

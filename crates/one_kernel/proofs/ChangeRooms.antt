@@ -2,13 +2,12 @@
 use Rattle.file_model.specs.Files.{Files}
 use Rattle.isa_model.specs.Memory.{Memory}
 use Rattle.isa_model.specs.declared.stops.Stop.TheVariants.{Break, Ecall, Fault, Illegal, Misaligned, On}
-use Rattle.kernel_model.specs.MemoryCalls.{refusal_at_end}
-use Rattle.kernel_model.specs.Nodes.{change_in, has_thread, process_of, stop_in, thread_of}
+use Rattle.kernel_model.specs.MemoryCalls.{decide, refusal_at_end}
+use Rattle.kernel_model.specs.Nodes.{Process, change_in, has_thread, process_of, stop_in, thread_of}
 use Rattle.kernel_model.specs.OneKernel.{OneHere, OneKernel}
 use Rattle.kernel_model.specs.Pages.{pages_count}
-use Rattle.kernel_model.specs.Plans.{Delegated, Local, Plan, Unknown, Vm}
 use Rattle.kernel_model.specs.Steps.{of_thread, one_changed, one_trap, one_trapped, one_view, vm_finish, vm_finish_of}
-use Rattle.kernel_model.specs.Traps.{past_ecall, planned, trap, trap_of_stop}
+use Rattle.kernel_model.specs.Traps.{arguments_of, call_named, called, past_ecall, trap, trap_of_stop}
 use Rattle.kernel_model.specs.declared.Change.{Change}
 use Rattle.kernel_model.specs.declared.Does.TheVariants as does
 use Rattle.kernel_model.specs.declared.Does.TheVariants.{InVm, Stopped}
@@ -22,16 +21,19 @@ use Rattle.one_calls.specs.Here.{Rest}
 use Rattle.one_files.specs.Seen.{seen}
 use Rattle.one_kernel.proofs.After.{put-same, row-there}
 use Rattle.one_kernel.proofs.Facts.{thread-own}
-use Rattle.one_kernel.specs.Due.{HasChangeRoom, HasRoomFor, due, due_by, unless_refused}
+use Rattle.one_kernel.specs.Due.{HasChangeRoom, HasRoomFor, at_once, changed_at_once, due, due_by, unless_refused}
 use Rattle.one_kernel.specs.Parts.{one_of, shown_call, shown_own}
 use Rattle.node_machine.specs.Reached.{IsShown}
-use Rattle.one_kernel.specs.Trapping.{calls_memory, changes_at, is_on_memory, plan_of}
+use Rattle.one_kernel.specs.Trapping.{calls_memory, changes_at}
 use Rattle.one_kernel.specs.declared.parts.One.{One}
 use Rattle.one_kernel.specs.declared.parts.Own.{Own}
 use Rattle.one_memory.specs.Changing.{added_by}
 use Rattle.std.proofs.Common.{ap, refl, subst, sym, ◌∙◌}
 use Rattle.std.proofs.lemmas.Bool.{eq-eqb}
 use Rattle.std.specs.Prelude.{Err, IsSome, None, Ok, OnOk, Option, Result, Some, cond, is_some, option_map, true, ℕ, ◌≡◌, ◌≤◌}
+use Rattle.system_calls.specs.declared.MemoryCall.{MemoryCall}
+use Rattle.system_calls.specs.declared.SystemCall.{SystemCall}
+use Rattle.system_calls.specs.declared.SystemCall.TheVariants as calls
 
 -- what a change isn't handed
 abbrev pub rest_of : One → Own → Rest
@@ -76,17 +78,10 @@ stands-at (does.Asleep a) r e = absurd (cc)
 stands-at (does.InWait pid status) r e = absurd (cc)
 stands-at (InVm c) r e = absurd (cc)
 
-pub names-memory : (d : Does) (r : Regs) → changes_at r (stop_in d) ≡ true → is_on_memory (plan_of r) ≡ true
-names-memory d r e = ap (λ (k : Does). changes_at r (stop_in k)) (sym (stands-at d r e)) ∙ e
-
--- the thread stands on its ecall, whatever the files are
-pub stands-in : (x : One) (t : ℕ) → calls_memory (one_of x).node t ≡ true → (files : Files) → (thread_of (node_of x.node files) t).does ≡ Stopped Ecall
+-- it is one whatever the files are
+pub calls-in : (x : One) (t : ℕ) → calls_memory (one_of x).node t ≡ true → (files : Files) → calls_memory (node_of x.node files) t ≡ true
 unfolding one_of node_of
-stands-in x t e files = stands-at (thread_of (one_of x).node t).does (thread_of (one_of x).node t).regs e
-
-pub memory-of : (x : One) (t : ℕ) → calls_memory (one_of x).node t ≡ true → is_on_memory (plan_of (thread_of (node_of x.node (seen x.files)) t).regs) ≡ true
-unfolding one_of
-memory-of x t e = names-memory (thread_of (one_of x).node t).does (thread_of (one_of x).node t).regs e
+calls-in x t e files = e
 
 -- the process of a thread, its break, and what it changes next, whatever the files are
 pub own-in : (x : One) (t p : ℕ) → (thread_of (one_of x).node t).process ≡ p → (files : Files) → (thread_of (node_of x.node files) t).process ≡ p
@@ -118,19 +113,19 @@ waits-not x t d e none has = go d refl (ap (λ (k : Does). is_some (change_in k)
     go (does.Asleep a) is f = cc
     go (does.InWait pid status) is f = cc
 
-module _ (p t : ℕ) (h : OneHere) where
-  by-plan : (r : Regs) (q : Plan) → is_on_memory q ≡ true → one_trapped p t (planned t h.free r (past_ecall t (one_view h)) Vm) h ≡ one_trapped p t (planned t h.free r (past_ecall t (one_view h)) q) h
-  by-plan r Vm e = refl
-  by-plan r Unknown e = absurd (cc)
-  by-plan r Local e = absurd (cc)
-  by-plan r (Delegated phases) e = absurd (cc)
+-- what a memory call changes at once is due
+pub due-at : (d : Does) (r : Regs) (call : MemoryCall) (p : Process) (m : Memory) (free : ℕ) → d ≡ Stopped Ecall → Some (calls.Memory call) ≡ call_named r
+    → due_by d r p m free ≡ at_once (decide p m free call (arguments_of r))
+due-at d r call p m free stands named = ap (λ (k : Does). due_by k r p m free) stands ∙ ap (λ (o : Option SystemCall). changed_at_once o (arguments_of r) p m free) (sym named)
 
+module _ (p t : ℕ) (h : OneHere) where
   -- the trap is what the memory call comes to
-  pub trap-is : (thread_of h.node t).does ≡ Stopped Ecall → is_on_memory (plan_of (thread_of h.node t).regs) ≡ true
-      → one_trapped p t (planned t h.free (thread_of h.node t).regs (past_ecall t (one_view h)) Vm) h ≡ one_trap p t h
+  pub trap-is : (r : Regs) (call : MemoryCall) → r ≡ (thread_of h.node t).regs → (thread_of h.node t).does ≡ Stopped Ecall → Some (calls.Memory call) ≡ call_named r
+      → one_trapped p t (called t h.free r (past_ecall t (one_view h)) (Some (calls.Memory call))) h ≡ one_trap p t h
   unfolding one_trap trap
-  trap-is stands on =
-      by-plan (thread_of h.node t).regs (plan_of (thread_of h.node t).regs) on
+  trap-is r call same stands named =
+      ap (λ (o : Option SystemCall). one_trapped p t (called t h.free r (past_ecall t (one_view h)) o) h) named
+      ∙ ap (λ (q : Regs). one_trapped p t (called t h.free q (past_ecall t (one_view h)) (call_named q)) h) same
       ∙ ap (λ (d : Does). one_trapped p t (trap_of_stop t h.free (one_view h) (stop_in d)) h) (sym stands)
 
   -- and the end is that of the change

@@ -1,18 +1,18 @@
 -- A memory call of a thread behind its ecall.
 use Rattle.hybrid_laws.proofs.node.Primitives.{at-change}
-use Rattle.isa_model.specs.Registers.{reg}
 use Rattle.kernel_model.specs.MemoryCalls.{Decision, Now, Reply, Round, decide}
 use Rattle.kernel_model.specs.Nodes.{Node, Thread, change_thread, no_thread, process_of, set_pc, thread_of}
 use Rattle.kernel_model.specs.OneKernel.{OneHere}
-use Rattle.kernel_model.specs.Plans.{Vm}
 use Rattle.kernel_model.specs.Signals.{View}
 use Rattle.kernel_model.specs.Steps.{one_trapped, one_view, with_node}
-use Rattle.kernel_model.specs.Traps.{arguments_of, decided, past_ecall, planned}
+use Rattle.kernel_model.specs.Traps.{arguments_of, called, decided, past_ecall}
 use Rattle.mck_word.specs.Maps.{at}
 use Rattle.mck_word.specs.declared.Regs.{Regs}
 use Rattle.std.proofs.Common.{ap, arith, refl, sym, ◌∙◌, ◌≡◌}
 use Rattle.std.proofs.lemmas.Bool.Decides.{nat_tests}
 use Rattle.std.specs.Prelude.{None, Option, Some, option_map, true, unwrap_or, ℕ, ◌+◌, ◌==◌}
+use Rattle.system_calls.specs.declared.MemoryCall.{MemoryCall}
+use Rattle.system_calls.specs.declared.SystemCall.TheVariants.{Memory}
 
 abbrev pub past : Thread → Thread
 past x = record x { regs = set_pc (x.regs.pc + 4) x.regs }
@@ -35,12 +35,13 @@ same-decided p t v h node (Reply answer) = refl
 same-decided p t v h node (Now c) = refl
 same-decided p t v h node (Round c) = refl
 
--- what the call that the registers name decides behind its ecall, for a process
-abbrev pub decision_of : ℕ → ℕ → Regs → OneHere → ℕ → Decision
-decision_of t free r h q = decide (process_of (behind t h.node) q) h.own.memory free (reg r 17) (arguments_of r)
+-- what the call with the arguments of the registers decides behind its ecall, for a process
+abbrev pub decision_of : ℕ → ℕ → MemoryCall → Regs → OneHere → ℕ → Decision
+decision_of t free call r h q = decide (process_of (behind t h.node) q) h.own.memory free call (arguments_of r)
 
-pub memory-call-is : (p t free : ℕ) (r : Regs) (h : OneHere) → (thread_of h.node t).process ≡ p
-    → one_trapped p t (decided t (one_view (with_node (behind t h.node) h)) (decision_of t free r h p)) (with_node (behind t h.node) h) ≡ one_trapped p t (planned t free r (past_ecall t (one_view h)) Vm) h
-memory-call-is p t free r h own =
-    same-decided p t (past_ecall t (one_view h)) h (behind t h.node) (decision_of t free r h p)
-    ∙ ap (λ (q : ℕ). one_trapped p t (decided t (past_ecall t (one_view h)) (decision_of t free r h q)) h) (sym (process-kept h.node t ∙ own))
+pub memory-call-is : (p t free : ℕ) (call : MemoryCall) (r : Regs) (h : OneHere) → (thread_of h.node t).process ≡ p
+    → one_trapped p t (decided t (one_view (with_node (behind t h.node) h)) (decision_of t free call r h p)) (with_node (behind t h.node) h)
+    ≡ one_trapped p t (called t free r (past_ecall t (one_view h)) (Some (Memory call))) h
+memory-call-is p t free call r h own =
+    same-decided p t (past_ecall t (one_view h)) h (behind t h.node) (decision_of t free call r h p)
+    ∙ ap (λ (q : ℕ). one_trapped p t (decided t (past_ecall t (one_view h)) (decision_of t free call r h q)) h) (sym (process-kept h.node t ∙ own))

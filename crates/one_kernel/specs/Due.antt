@@ -1,13 +1,12 @@
 -- The change of memory that a thread makes next: what it is, and the room for it.
 use Rattle.isa_model.specs.Memory.{Memory}
-use Rattle.isa_model.specs.Registers.{reg}
 use Rattle.isa_model.specs.declared.stops.Stop.TheVariants.{Ecall}
 use Rattle.job_model.specs.Images.{highest}
 use Rattle.kernel_model.specs.MemoryCalls.{Decision, Now, Reply, Round, decide, most_heap, refusal_at_end}
 use Rattle.kernel_model.specs.Nodes.{Node, Process, process_of, thread_of}
 use Rattle.kernel_model.specs.Pages.{pages_count}
 use Rattle.kernel_model.specs.Steps.{of_thread}
-use Rattle.kernel_model.specs.Traps.{arguments_of}
+use Rattle.kernel_model.specs.Traps.{arguments_of, call_named}
 use Rattle.kernel_model.specs.declared.Change.{Change}
 use Rattle.kernel_model.specs.declared.Does.TheVariants.{InVm, Stopped}
 use Rattle.kernel_model.specs.declared.Does.{Does}
@@ -17,7 +16,9 @@ use Rattle.one_kernel.specs.Parts.{one_of}
 use Rattle.one_kernel.specs.declared.parts.One.{One}
 use Rattle.one_kernel.specs.declared.parts.Own.{Own}
 use Rattle.one_memory.specs.Changing.{added_by}
-use Rattle.std.specs.Prelude.{None, Option, Some, ℕ, ℤ, ◌+◌, ◌≡◌, ◌≤◌}
+use Rattle.std.specs.Prelude.{List, None, Option, Some, ℕ, ℤ, ◌+◌, ◌≡◌, ◌≤◌}
+use Rattle.system_calls.specs.declared.SystemCall.{SystemCall}
+use Rattle.system_calls.specs.declared.SystemCall.TheVariants as calls
 
 -- a heap begins where an image may end, or below, and no break is above its limit
 pub record HeapFits (x : Process) : Type 0 where
@@ -35,9 +36,14 @@ abbrev pub unless_refused : Change → Option ℤ → Option Change
 unless_refused c None = Some c
 unless_refused c (Some answer) = None
 
+-- the change that a memory call makes at once, by its arguments
+abbrev pub changed_at_once : Option SystemCall → List ℕ → Process → Memory → ℕ → Option Change
+changed_at_once (Some (calls.Memory call)) arguments p m free = at_once (decide p m free call arguments)
+changed_at_once _ arguments p m free = None
+
 -- what a thread that does so changes next: its call decides it at once, or its change has waited and isn't refused
 abbrev pub due_by : Does → Regs → Process → Memory → ℕ → Option Change
-due_by (Stopped Ecall) r p m free = at_once (decide p m free (reg r 17) (arguments_of r))
+due_by (Stopped Ecall) r p m free = changed_at_once (call_named r) (arguments_of r) p m free
 due_by (InVm c) r p m free = unless_refused c (refusal_at_end p m free c)
 due_by _ r p m free = None
 

@@ -9,7 +9,8 @@ use Rattle.one_kernel.specs.Trapping.{begins_call, calls_memory}
 use Rattle.one_kernel.specs.declared.parts.One.{One}
 use Rattle.std.specs.Prelude.{Bool, false, true, ℕ, ◌≤◌}
 
--- what a trap takes beside room for a thread and a sleeper: that of a fork, of a delegated call that begins, of a memory call
+-- what a trap takes beside room for a thread and a sleeper: that of a fork, of a delegated call that begins, of a
+-- memory call
 abbrev pub HasKindRoom : Bool → Bool → Bool → One → ℕ → Type 0
 HasKindRoom true _ _ x t = HasForkRoom x t
 HasKindRoom false true _ x t = HasCallRoom x t

@@ -1,27 +1,23 @@
 -- The traps by which a delegated call begins, and those of memory calls.
-use Rattle.isa_model.specs.Registers.{reg}
 use Rattle.isa_model.specs.declared.stops.Stop.{Stop}
 use Rattle.isa_model.specs.declared.stops.Stop.TheVariants.{Ecall}
 use Rattle.kernel_model.specs.Nodes.{Node, stop_in, thread_of}
-use Rattle.kernel_model.specs.Plans.{Delegated, Plan, Vm, plan}
-use Rattle.kernel_model.specs.Traps.{arguments_of}
+use Rattle.kernel_model.specs.Traps.{call_named}
 use Rattle.mck_word.specs.declared.Regs.{Regs}
 use Rattle.std.specs.Prelude.{Bool, Option, Some, false, true, ℕ}
+use Rattle.system_calls.specs.declared.SystemCall.{SystemCall}
+use Rattle.system_calls.specs.declared.SystemCall.TheVariants.{File, Memory}
 
-abbrev pub is_delegated : Plan → Bool
-is_delegated (Delegated phases) = true
+abbrev pub is_delegated : Option SystemCall → Bool
+is_delegated (Some (File call)) = true
 is_delegated _ = false
 
-abbrev pub is_on_memory : Plan → Bool
-is_on_memory Vm = true
+abbrev pub is_on_memory : Option SystemCall → Bool
+is_on_memory (Some (Memory call)) = true
 is_on_memory _ = false
 
--- the call that the registers name
-abbrev pub plan_of : Regs → Plan
-plan_of r = plan (reg r 17) (arguments_of r)
-
 abbrev pub begins_at : Regs → Option Stop → Bool
-begins_at r (Some Ecall) = is_delegated (plan_of r)
+begins_at r (Some Ecall) = is_delegated (call_named r)
 begins_at r _ = false
 
 -- the thread's trap begins a delegated call
@@ -29,7 +25,7 @@ abbrev pub begins_call : Node → ℕ → Bool
 begins_call node t = let x = thread_of node t in begins_at x.regs (stop_in x.does)
 
 abbrev pub changes_at : Regs → Option Stop → Bool
-changes_at r (Some Ecall) = is_on_memory (plan_of r)
+changes_at r (Some Ecall) = is_on_memory (call_named r)
 changes_at r _ = false
 
 -- the thread's trap is a memory call

@@ -90,7 +90,8 @@ impl One {
         Ok(())
     }
 
-    /// The machine at the boot of a job and its images. It has as many frames as the job says, less the pages of the guests.
+    /// The machine at the boot of a job and its images. It has as many frames as the job says, less the pages of the
+    /// guests.
     pub fn boot(alloc: Global, job: &Job, images: &[Image]) -> Result<Self, NoMemory>
         requires { IsPrepared job.now images.now }
         ensures { IfOk result (λ x. one_of x ≡ boot job.now images.now) }

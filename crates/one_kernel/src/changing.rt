@@ -3,26 +3,26 @@ ghost use Rattle.file_model.specs.Files.{Files};
 ghost use Rattle.isa_model.specs.declared.stops.Stop.TheVariants.{Ecall};
 ghost use Rattle.kernel_model.specs.MemoryCalls.{answer_of_change, decide, effect_of, refusal_at_end};
 ghost use Rattle.kernel_model.specs.Nodes.{Process, process_of, thread_of};
-ghost use Rattle.kernel_model.specs.Plans.{Vm};
-ghost use Rattle.kernel_model.specs.Steps.{one_changed, one_effect, one_trapped, one_view};
-ghost use Rattle.kernel_model.specs.Traps.{decided, past_ecall, planned};
+ghost use Rattle.kernel_model.specs.Steps.{one_changed, one_effect, one_trap, one_trapped, one_view};
+ghost use Rattle.kernel_model.specs.Traps.{arguments_of, called, decided, past_ecall};
 ghost use Rattle.kernel_model.specs.declared.Does.TheVariants.{Stopped};
 ghost use Rattle.kernel_tables.specs.Shown.{node_of};
 ghost use Rattle.mck_word.specs.Maps.{count};
 ghost use Rattle.offer_laws.specs.ChangeFits.{ChangeFits, DecisionFits};
 ghost use Rattle.one_calls.specs.Here.{Rest, here};
 ghost use Rattle.one_kernel.specs.Due.{HasRoomFor, HeapFits, at_once, due, due_by, unless_refused};
-ghost use Rattle.std.specs.Prelude.{◌≡◌, ◌<◌, ◌+◌, ◌^◌, Some};
+ghost use Rattle.one_kernel.specs.Trapping.{calls_memory};
+ghost use Rattle.std.specs.Prelude.{◌≡◌, ◌<◌, ◌+◌, ◌^◌, Some, true};
+ghost use Rattle.system_calls.specs.declared.SystemCall.TheVariants.{Memory};
 ghost use Rattle.vm_calls.specs.Facts.{decision, refusal};
 
-use ikc_ring::Call;
 use isa_model::Stop;
 use kernel_model::{Change, Does};
-use kernel_tables::KernelTables;
-use mck_word::{Pid, Regs, Req, Tid};
-use one_calls::{arguments_of, call_number};
+use kernel_tables::{KernelTables, arguments_of, call_named};
+use mck_word::{Pid, Regs, Tid};
 use one_changes::{decide, finish, make};
 use one_memory::PageRows;
+use system_calls::{MemoryCall, SystemCall};
 use vm_calls::{AtEnd, VmPlan};
 
 /// What the call answers once its change is made.
@@ -69,33 +69,22 @@ fn make_change(
     node.finishes(t, answer_of(change));
 }
 
-/// What a memory call of the process decides. No request belongs to it.
+/// What a memory call of the process decides.
 fn plan_call(
     node: &KernelTables,
     memory: &PageRows,
     free: u64,
     p: Pid,
-    t: Tid,
-    number: u64,
+    call: MemoryCall,
     args: &[u64; 6],
 ) -> VmPlan
     requires { (files : Files) → HeapFits (process_of (node_of node.now files) p.0) }
     ensures fits { DecisionFits (decision result) }
-    ensures is { (files : Files) → decision result ≡ decide (process_of (node_of node.now files) p.0) memory.now.map free number args.now }
+    ensures is { (files : Files) → decision result ≡ decide (process_of (node_of node.now files) p.0) memory.now.map free call args.now }
 {
-    let call = Call {
-        q: Req(0),
-        tid: t,
-        number,
-        args: *args,
-    };
-    decide(
-        memory,
-        node.program_break(p),
-        node.heap_base(p),
-        free,
-        &call,
-    )
+    let brk = node.program_break(p);
+    let base = node.heap_base(p);
+    decide(memory, brk, base, free, call, args)
 }
 
 /// The thread has its answer, its change is made, or it waits until its change may be made.
@@ -121,49 +110,45 @@ fn does_as_planned(
     }
 }
 
-/// The memory call that the registers of the thread name is made, behind its ecall.
+/// The memory call of the thread, with the arguments of its registers, is made, behind its ecall.
 fn calls_for_memory(
     node: &mut KernelTables,
     memory: &mut PageRows,
     free: &mut u64,
     p: Pid,
     t: Tid,
+    call: MemoryCall,
     regs: &Regs,
 )
     requires own { (files : Files) → (thread_of (node_of node.old files) t.0).process ≡ p.0 }
     requires heap { (files : Files) → HeapFits (process_of (node_of node.old files) p.0) }
     requires small { free.old + count memory.old.map < 2 ^ 64 }
-    requires room { (files : Files) → HasRoomFor memory.old.spare (process_of (node_of node.old files) p.0).program_break (due_by (Stopped Ecall) regs.now (process_of (node_of node.old files) p.0) memory.old.map free.old) }
+    requires room { (files : Files) → HasRoomFor memory.old.spare (process_of (node_of node.old files) p.0).program_break
+        (at_once (decide (process_of (node_of node.old files) p.0) memory.old.map free.old call (arguments_of regs.now))) }
     ensures { (r : Rest) → here node.new memory.new.map (record r { free = free.new })
         ≡ (let h = here node.old memory.old.map (record r { free = free.old }) in
-        one_trapped p.0 t.0 (planned t.0 free.old regs.now (past_ecall t.0 (one_view h)) Vm) h) }
+        one_trapped p.0 t.0 (called t.0 free.old regs.now (past_ecall t.0 (one_view h)) (Some (Memory call))) h) }
 {
     node.past_ecall(t);
-    let plan = plan_call(
-        node,
-        memory,
-        *free,
-        p,
-        t,
-        call_number(regs),
-        &arguments_of(regs),
-    );
+    let plan = plan_call(node, memory, *free, p, call, &arguments_of(regs));
     does_as_planned(node, memory, free, p, t, &plan);
 }
 
 /// The trap of the thread, which stopped at a memory call.
 pub fn trap_memory(node: &mut KernelTables, memory: &mut PageRows, free: &mut u64, p: Pid, t: Tid)
     requires own { (files : Files) → (thread_of (node_of node.old files) t.0).process ≡ p.0 }
-    requires stopped { (files : Files) → (thread_of (node_of node.old files) t.0).does ≡ Stopped Ecall }
+    requires memory { (files : Files) → calls_memory (node_of node.old files) t.0 ≡ true }
     requires heap { (files : Files) → HeapFits (process_of (node_of node.old files) p.0) }
     requires small { free.old + count memory.old.map < 2 ^ 64 }
     requires room { (files : Files) → HasRoomFor memory.old.spare (process_of (node_of node.old files) p.0).program_break (due (node_of node.old files) t.0 memory.old.map free.old) }
     ensures { (r : Rest) → here node.new memory.new.map (record r { free = free.new })
-        ≡ (let h = here node.old memory.old.map (record r { free = free.old }) in
-        one_trapped p.0 t.0 (planned t.0 free.old (thread_of h.node t.0).regs (past_ecall t.0 (one_view h)) Vm) h) }
+        ≡ one_trap p.0 t.0 (here node.old memory.old.map (record r { free = free.old })) }
 {
     let regs = node.regs(t);
-    calls_for_memory(node, memory, free, p, t, &regs);
+    let Some(SystemCall::Memory(call)) = call_named(&regs) else {
+        return;
+    };
+    calls_for_memory(node, memory, free, p, t, call, &regs);
 }
 
 /// What is decided at the end of the change, for which the thread has waited.
@@ -197,27 +182,24 @@ pub fn finish_change(
     }
 }
 
-/// The change that the memory call of the registers makes at once.
+/// The change that the call of the registers makes at once, where it is a memory call.
 fn change_at_once(
     node: &KernelTables,
     memory: &PageRows,
     free: u64,
     p: Pid,
-    t: Tid,
     regs: &Regs,
 ) -> Option<Change>
     requires { (files : Files) → HeapFits (process_of (node_of node.now files) p.0) }
     ensures { (files : Files) → result ≡ due_by (Stopped Ecall) regs.now (process_of (node_of node.now files) p.0) memory.now.map free }
 {
-    match plan_call(
-        node,
-        memory,
-        free,
-        p,
-        t,
-        call_number(regs),
-        &arguments_of(regs),
-    ) {
+    let plan = match call_named(regs) {
+        Some(SystemCall::Memory(call)) => {
+            plan_call(node, memory, free, p, call, &arguments_of(regs))
+        }
+        None | Some(SystemCall::Clone | SystemCall::Local(_) | SystemCall::File(_)) => return None,
+    };
+    match plan {
         VmPlan::Now(change) => Some(change),
         VmPlan::Reply(_) | VmPlan::Round(..) => None,
     }
@@ -247,7 +229,7 @@ pub fn due(node: &KernelTables, memory: &PageRows, free: u64, p: Pid, t: Tid) ->
     ensures { (files : Files) → result ≡ due (node_of node.now files) t.0 memory.now.map free }
 {
     match node.does(t) {
-        Does::Stopped(Stop::Ecall) => change_at_once(node, memory, free, p, t, &node.regs(t)),
+        Does::Stopped(Stop::Ecall) => change_at_once(node, memory, free, p, &node.regs(t)),
         Does::InVm(change) => change_at_end(node, memory, free, p, &change),
         _ => None,
     }

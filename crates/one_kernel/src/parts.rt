@@ -14,8 +14,8 @@ use std::alloc::Global;
 /// What the kernel keeps of one process beside the node: its memory, and the calls of its threads by number.
 #[derive(Drop)]
 pub struct Own {
-    pub memory: PageRows,
-    pub calls: Rows<Call>,
+    pub(crate) memory: PageRows,
+    pub(crate) calls: Rows<Call>,
 }
 
 impl Own {
@@ -27,15 +27,16 @@ impl Own {
     }
 }
 
-/// The machine: the node's tables, what is kept of each process, the files, the number of free frames, the instructions that were
-/// decoded before, and the memory of a process that is to be made.
+/// The machine: the node's tables, what is kept of each process, the files, the number of free frames, the
+/// instructions that were decoded before, and the memory of a process that is to be made. Only its boot makes one, and
+/// only its steps change it.
 #[derive(Drop)]
 pub struct One {
-    pub node: KernelTables,
-    pub own: Rows<Own>,
-    pub files: RowFiles,
-    pub free: u64,
-    pub known: KnownWords,
-    pub unborn: PageRows,
-    pub alloc: Global,
+    pub(crate) node: KernelTables,
+    pub(crate) own: Rows<Own>,
+    pub(crate) files: RowFiles,
+    pub(crate) free: u64,
+    pub(crate) known: KnownWords,
+    pub(crate) unborn: PageRows,
+    pub(crate) alloc: Global,
 }

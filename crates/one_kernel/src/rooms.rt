@@ -106,7 +106,8 @@ impl One {
         }
     }
 
-    /// Makes the memory of a child of the thread's process, which is kept aside: it has no page, and room for those of the process.
+    /// Makes the memory of a child of the thread's process, which is kept aside: it has no page, and room for those of
+    /// the process.
     fn make_unborn(&mut self, t: Tid) -> Result<(), NoMemory>
         ensures state { one_of self.new ≡ one_of self.old }
         ensures node { self.new.node ≡ self.old.node }
@@ -120,7 +121,8 @@ impl One {
         self.unborn.reserve(self.alloc, pages)
     }
 
-    /// Makes room for a process with a copy of the memory of the thread's process. The state stays, also where memory lacks.
+    /// Makes room for a process with a copy of the memory of the thread's process. The state stays, also where memory
+    /// lacks.
     pub(crate) fn make_fork_room(&mut self, t: Tid) -> Result<(), NoMemory>
         ensures state { one_of self.new ≡ one_of self.old }
         ensures node { KeepsRoom self.old.node self.new.node }

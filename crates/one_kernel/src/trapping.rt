@@ -10,12 +10,14 @@ ghost use Rattle.std.specs.Prelude.{◌≡◌, ◌≤◌, true};
 
 use crate::calls::{Call, Standing};
 use crate::parts::{One, Own};
+use crate::traps::delegated_call;
 use call_progress::Progress;
 use file_calls::store::FileStore;
 use kernel_model::Does;
+use kernel_tables::arguments_of;
 use key_rows::Rows;
 use mck_word::Tid;
-use one_calls::{arguments_of, call_number, fork, trap};
+use one_calls::{fork, trap};
 use one_memory::PageRows;
 use std::mem;
 
@@ -43,7 +45,8 @@ impl One {
         let p = self.node.process_of_thread(t);
         let regs = self.node.regs(t);
         let own = self.own.row_mut(p.0 as u64);
-        let progress = Progress::of_call(self.alloc, call_number(&regs), &arguments_of(&regs));
+        let call = delegated_call(&regs);
+        let progress = Progress::of_call(self.alloc, call, &arguments_of(&regs));
         own.calls.put(
             t.0 as u64,
             Call {

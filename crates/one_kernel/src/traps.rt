@@ -1,31 +1,42 @@
 // Which traps begin delegated calls, and which are memory calls.
 ghost use Rattle.file_model.specs.Files.{Files};
+ghost use Rattle.kernel_model.specs.Traps.{call_named};
 ghost use Rattle.kernel_tables.specs.Shown.{node_of};
-ghost use Rattle.one_kernel.specs.Trapping.{begins_call, calls_memory, is_delegated, is_on_memory, plan_of};
-ghost use Rattle.std.specs.Prelude.{◌≡◌};
+ghost use Rattle.one_kernel.specs.Trapping.{begins_call, calls_memory, is_delegated, is_on_memory};
+ghost use Rattle.std.specs.Prelude.{◌≡◌, Some, true};
+ghost use Rattle.system_calls.specs.declared.SystemCall.TheVariants.{File};
 
-use call_plan::{Plan, plan};
 use isa_model::Stop;
 use kernel_model::Does;
-use kernel_tables::KernelTables;
+use kernel_tables::{KernelTables, call_named};
 use mck_word::{Regs, Tid};
-use one_calls::{arguments_of, call_number};
+use system_calls::{FileCall, SystemCall};
 
 /// Whether the call that the registers name is delegated.
 fn names_delegated(regs: &Regs) -> bool
-    ensures { result ≡ is_delegated (plan_of regs.now) }
+    ensures { result ≡ is_delegated (call_named regs.now) }
 {
-    matches!(
-        plan(call_number(regs), &arguments_of(regs)),
-        Plan::Delegated(_)
-    )
+    matches!(call_named(regs), Some(SystemCall::File(_)))
+}
+
+/// The delegated call that the registers name.
+pub(crate) fn delegated_call(regs: &Regs) -> FileCall
+    requires { is_delegated (call_named regs.now) ≡ true }
+    ensures { Some (File result) ≡ call_named regs.now }
+{
+    match call_named(regs) {
+        Some(SystemCall::File(call)) => call,
+        None | Some(SystemCall::Clone | SystemCall::Local(_) | SystemCall::Memory(_)) => {
+            unreachable!()
+        }
+    }
 }
 
 /// Whether the call that the registers name is a memory call.
 fn names_memory(regs: &Regs) -> bool
-    ensures { result ≡ is_on_memory (plan_of regs.now) }
+    ensures { result ≡ is_on_memory (call_named regs.now) }
 {
-    matches!(plan(call_number(regs), &arguments_of(regs)), Plan::Memory)
+    matches!(call_named(regs), Some(SystemCall::Memory(_)))
 }
 
 /// Whether the trap of the thread begins a delegated call.

@@ -20,7 +20,8 @@ impl One {
         deliver(&mut self.node, &mut own.memory, t);
     }
 
-    /// The thread waits for a child no longer: the lowest selected child that is Ended is told, or the call is refused.
+    /// The thread waits for a child no longer: the lowest selected child that is Ended is told, or the call is
+    /// refused.
     pub fn wait(&mut self, t: Tid)
         requires { Ready (one_of self.old) (Wait t) }
         ensures { one_of self.new ≡ after (one_of self.old) (Wait t) }

@@ -18,7 +18,8 @@ use mck_word::{NoMemory, Pid, Tid};
 use one_changes::make_room_for;
 
 impl One {
-    /// The trap of the thread at a memory call: it is answered, its change is made, or it waits until its change may be made.
+    /// The trap of the thread at a memory call: it is answered, its change is made, or it waits until its change may
+    /// be made.
     pub(crate) fn trap_memory(&mut self, t: Tid)
         requires ready { Ready (one_of self.old) (Trap t) }
         requires memory { calls_memory (one_of self.old).node t.0 ≡ true }

@@ -7,44 +7,47 @@ use Rattle.hybrid_model.specs.OneProcess.{view_here}
 use Rattle.hybrid_model.specs.Trap.{after_trap, begin_call, trapped}
 use Rattle.hybrid_model.specs.Pairs.{Here, ring_of}
 use Rattle.hybrid_model.specs.Rings.{ring}
-use Rattle.isa_model.specs.Registers.{reg}
 use Rattle.isa_model.specs.declared.stops.Stop.{Stop}
 use Rattle.isa_model.specs.declared.stops.Stop.TheVariants.{Break, Ecall, Illegal, Misaligned, On, Fault}
 use Rattle.kernel_model.specs.Nodes.{has_thread, is_living, is_stopped, stop_in, thread_of}
-use Rattle.kernel_model.specs.Plans.{Delegated, Local, Phase, Plan, Unknown, Vm, plan}
+use Rattle.kernel_model.specs.CallPhases.{phases_of}
 use Rattle.kernel_model.specs.Progress.{starting}
 use Rattle.kernel_model.specs.Signals.{View}
-use Rattle.kernel_model.specs.Traps.{Begins, Trapped, arguments_of, may_trap, past_ecall, planned, trap, trap_of_stop}
+use Rattle.kernel_model.specs.Traps.{Begins, Trapped, arguments_of, call_named, called, may_trap, past_ecall, trap, trap_of_stop}
 use Rattle.lwk_side.specs.Begins.{begins_at, begins_call, is_delegated}
 use Rattle.mck_word.specs.declared.Regs.{Regs}
 use Rattle.pair_core.proofs.KernelFacts.{post-longer}
 use Rattle.pair_core.proofs.Posting.{Posts}
 use Rattle.std.proofs.Common.{ap, arith, refl, ◌∙◌}
-use Rattle.std.specs.Prelude.{List, None, Option, Some, length, true, ℕ, ◌&&◌, ◌<◌, ◌≡◌}
+use Rattle.std.specs.Prelude.{None, Option, Some, length, true, ℕ, ◌&&◌, ◌<◌, ◌≡◌}
+use Rattle.system_calls.specs.declared.SystemCall.{SystemCall}
+use Rattle.system_calls.specs.declared.SystemCall.TheVariants.{Clone, File, Local, Memory}
+use Rattle.system_calls.specs.declared.file_calls.FileCall.{FileCall}
 
 module _ (t free : ℕ) (v : View) where
   abbrev regs : Regs
   regs = (thread_of v.node t).regs
 
-  abbrev begun : List Phase → Trapped
-  begun phases = Begins (past_ecall t v).node (starting (reg regs 17) (arguments_of regs) phases)
+  abbrev begun : FileCall → Trapped
+  begun call = Begins (past_ecall t v).node (starting call (arguments_of regs) (phases_of call (arguments_of regs)))
 
-  by-plan : (w : Plan) → is_delegated w ≡ true → (phases : List Phase) × (planned t free regs (past_ecall t v) w ≡ begun phases)
-  by-plan Unknown e = absurd (grind (arith, e))
-  by-plan Local e = absurd (grind (arith, e))
-  by-plan Vm e = absurd (grind (arith, e))
-  by-plan (Delegated phases) e = (phases, refl)
+  by-call : (o : Option SystemCall) → is_delegated o ≡ true → (call : FileCall) × (called t free regs (past_ecall t v) o ≡ begun call)
+  by-call None e = absurd (grind (arith, e))
+  by-call (Some Clone) e = absurd (grind (arith, e))
+  by-call (Some (Local call)) e = absurd (grind (arith, e))
+  by-call (Some (Memory call)) e = absurd (grind (arith, e))
+  by-call (Some (File call)) e = (call, refl)
 
-  by-stop : (o : Option Stop) → begins_at regs o ≡ true → (phases : List Phase) × (trap_of_stop t free v o ≡ begun phases)
+  by-stop : (o : Option Stop) → begins_at regs o ≡ true → (call : FileCall) × (trap_of_stop t free v o ≡ begun call)
   by-stop None e = absurd (grind (arith, e))
   by-stop (Some On) e = absurd (grind (arith, e))
   by-stop (Some Break) e = absurd (grind (arith, e))
   by-stop (Some Illegal) e = absurd (grind (arith, e))
   by-stop (Some Misaligned) e = absurd (grind (arith, e))
   by-stop (Some (Fault l)) e = absurd (grind (arith, e))
-  by-stop (Some Ecall) e = by-plan (plan (reg regs 17) (arguments_of regs)) e
+  by-stop (Some Ecall) e = by-call (call_named regs) e
 
-  pub trap-begins : begins_call v.node t ≡ true → (phases : List Phase) × (trap t free v ≡ begun phases)
+  pub trap-begins : begins_call v.node t ≡ true → (call : FileCall) × (trap t free v ≡ begun call)
   unfolding trap
   trap-begins e = by-stop (stop_in (thread_of v.node t).does) e
 

@@ -9,8 +9,8 @@ use kernel_tables::ScriptLine;
 use mck_word::{NoMemory, Pid};
 use std::alloc::Global;
 
-/// A signal line of that index, as a line of the script. `NoMemory` where its index or its line has more than 32 bits: no job of that
-/// length is held in memory.
+/// A signal line of that index, as a line of the script. `NoMemory` where its index or its line has more than 32 bits:
+/// no job of that length is held in memory.
 fn script_line(index: u64, line: &SignalLine) -> Result<ScriptLine, NoMemory>
     requires { IsWithin 1 64 line.now.sig }
     ensures { IfOk result (λ x. shown_line x ≡ record { index = index; line = line.now.line; process = line.now.guest; signal = line.now.sig; after = line.now.after }) }

@@ -16,7 +16,8 @@ use mck_word::Tid;
 use page_map::PageTable;
 
 impl<T: PageTable + Drop, F: FileStore> Parts<T, F> {
-    /// The trap of a stopped thread that is a fork: a process begins, whose side was made ready, or the call is refused.
+    /// The trap of a stopped thread that is a fork: a process begins, whose side was made ready, or the call is
+    /// refused.
     pub fn fork(&mut self, t: Tid)
         requires ready { Ready (pair_of T.rows F.files self.old) (Trap t) }
         requires kept { Kept self.old }

@@ -41,7 +41,8 @@ impl<T: PageTable + Drop, F: FileStore> Parts<T, F> {
         self.lwk.make_ack_room(&mut side.task, p)
     }
 
-    /// The first message of the ring back is taken: a reply, a fault, or the acknowledgement with which a round is over.
+    /// The first message of the ring back is taken: a reply, a fault, or the acknowledgement with which a round is
+    /// over.
     pub fn intake(&mut self, p: Pid)
         requires ready { Ready (pair_of T.rows F.files self.old) (Intake p) }
         requires kept { Kept self.old }

@@ -13,7 +13,8 @@ use mck_word::NoMemory;
 use page_map::PageTable;
 
 impl<T: PageTable + Drop, F: FileStore> Parts<T, F> {
-    /// Makes the room that the event of the lightweight kernel needs. The parts show the same, also where memory lacks.
+    /// Makes the room that the event of the lightweight kernel needs. The parts show the same, also where memory
+    /// lacks.
     pub fn make_kernel_room(&mut self, event: Event) -> Result<(), NoMemory>
         requires { IsSound (pair_of T.rows F.files self.old) }
         ensures same { pair_of T.rows F.files self.new ≡ pair_of T.rows F.files self.old }

@@ -1,7 +1,8 @@
 //! The two kernels of a node.
 //!
-//! Promises: the parts show a state of the definitions (specs/Shown, `pair_of`); each event is the definition's event on it, where it may happen in a
-//! state that the two kernels reach (specs/Ready). What takes memory has its room made before.
+//! Promises: the parts show a state of the definitions (specs/Shown, `pair_of`); each event is the definition's event
+//! on it, where it may happen in a state that the two kernels reach (specs/Ready). What takes memory has its room made
+//! before.
 #![tactic(auto)]
 
 mod ack_clear;

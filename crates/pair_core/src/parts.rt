@@ -15,8 +15,9 @@ pub struct Side<T: PageTable> {
     pub channel: Channel,
 }
 
-/// The parts of the two kernels: the lightweight kernel, the processes by number, the files, the turns at pipes, the number of workers
-/// of each proxy, the instructions that were decoded before, and the side of the next child, where it was made ready.
+/// The parts of the two kernels: the lightweight kernel, the processes by number, the files, the turns at pipes, the
+/// number of workers of each proxy, the instructions that were decoded before, and the side of the next child, where
+/// it was made ready.
 #[derive(Drop)]
 pub struct Parts<T: PageTable, F: FileStore> {
     pub lwk: Lwk,

@@ -76,7 +76,8 @@ impl<T: PageTable + Drop, F: FileStore> Parts<T, F> {
         self.lwk.node.reserve_thread()
     }
 
-    /// Makes room for the change of memory that the trap of a thread of the process makes at once, where the process has a row.
+    /// Makes room for the change of memory that the trap of a thread of the process makes at once, where the process
+    /// has a row.
     fn make_change_room(&mut self, p: Pid, t: Tid) -> Result<(), NoMemory>
         requires sound { IsSound (pair_of T.rows F.files self.old) }
         requires own { (files : Files) → (thread_of (node_of self.old.lwk.node files) t.0).process ≡ p.0 }
@@ -107,8 +108,8 @@ impl<T: PageTable + Drop, F: FileStore> Parts<T, F> {
         self.make_change_room(p, t)
     }
 
-    /// The trap of a stopped thread that is no fork: the signal of its stop is raised; its call is answered, made, or begins; or it waits for the round of
-    /// a change.
+    /// The trap of a stopped thread that is no fork: the signal of its stop is raised; its call is answered, made, or
+    /// begins; or it waits for the round of a change.
     pub fn trap(&mut self, t: Tid)
         requires ready { Ready (pair_of T.rows F.files self.old) (Trap t) }
         requires kept { Kept self.old }
@@ -124,7 +125,8 @@ impl<T: PageTable + Drop, F: FileStore> Parts<T, F> {
         self.lwk.trap(&mut side.task, &mut side.channel, p, t);
     }
 
-    /// Makes the room that the trap of a thread needs, be it a fork or not. The parts show the same, also where memory lacks.
+    /// Makes the room that the trap of a thread needs, be it a fork or not. The parts show the same, also where memory
+    /// lacks.
     pub fn make_trap_or_fork_room(&mut self, alloc: Global, t: Tid) -> Result<(), NoMemory>
         requires workers { self.old.workers ≤ 4 }
         requires sound { IsSound (pair_of T.rows F.files self.old) }

@@ -12,7 +12,8 @@ use mck_word::Tid;
 use page_map::PageTable;
 
 impl<T: PageTable + Drop, F: FileStore> Parts<T, F> {
-    /// The thread waits for a child no longer: the lowest selected child that is Ended is told, or the call is refused.
+    /// The thread waits for a child no longer: the lowest selected child that is Ended is told, or the call is
+    /// refused.
     pub fn wait(&mut self, t: Tid)
         requires ready { Ready (pair_of T.rows F.files self.old) (Wait t) }
         requires kept { Kept self.old }

@@ -33,7 +33,8 @@ fn numbers(alloc: Global, node: &KernelTables) -> Result<Vec<Pid>, NoMemory>
 }
 
 impl<T: PageTable + Drop, F: JobFiles> Pair<T, F> {
-    /// The two kernels at the boot of a job and its images. `NoFrames` names the first guest for which the frames don't suffice.
+    /// The two kernels at the boot of a job and its images. `NoFrames` names the first guest for which the frames
+    /// don't suffice.
     pub fn boot(alloc: Global, job: &Job, images: &[Image]) -> Result<Self, BootError>
         requires { IsPrepared job.now images.now }
         ensures state { IfOk result (λ x. pair_of T.rows F.files x.parts ≡ boot job.now images.now) }

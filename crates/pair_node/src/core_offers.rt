@@ -106,7 +106,8 @@ impl<T: PageTable + Drop, F: FileStore> Pair<T, F> {
         None
     }
 
-    /// What the core offers: of the next thread above its last one that has an event, else of the lowest up to the last one.
+    /// What the core offers: of the next thread above its last one that has an event, else of the lowest up to the
+    /// last one.
     pub(crate) fn offer_on_core(&self, core: u32) -> Option<Event>
         ensures { result ≡ core_offer (pair_of T.rows F.files self.now.parts) core }
     {

@@ -102,7 +102,8 @@ impl<T: PageTable + Drop, F: FileStore> Pair<T, F> {
         self.if_it_may(side, Event::Park(p, w))
     }
 
-    /// What the worker of the process offers, whose side that is. Only the events that are left by how the worker stands are asked.
+    /// What the worker of the process offers, whose side that is. Only the events that are left by how the worker
+    /// stands are asked.
     pub(crate) fn offer_of_worker(&self, side: &Side<T>, p: Pid, w: u32) -> Option<Event>
         requires { IsThere T.rows F.files self.now.parts p.0 side.now }
         ensures { result ≡ worker_offer (pair_of T.rows F.files self.now.parts) p.0 w }

@@ -23,7 +23,8 @@ use page_map::PageTable;
 use pair_core::Parts;
 use std::alloc::Global;
 
-/// The two kernels in a state that they reach, beside the numbers of their processes, rising, and the lists of their threads.
+/// The two kernels in a state that they reach, beside the numbers of their processes, rising, and the lists of their
+/// threads.
 #[derive(Drop)]
 pub struct Pair<T: PageTable, F: FileStore> {
     pub alloc: Global,

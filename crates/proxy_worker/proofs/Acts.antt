@@ -5,7 +5,7 @@ use Rattle.file_model.specs.declared.operations.Readiness.TheVariants.{Ready, No
 use Rattle.hybrid_model.specs.Act.{acted, may_act}
 use Rattle.hybrid_model.specs.Workers.{is_free_to_act, kind_for, stepped, stepped_service}
 use Rattle.hybrid_model.specs.Sides.{Book, Service, serves, served, service_of, state_in, state_of, stated, with_service, with_state}
-use Rattle.ikc_ring.specs.declared.Call.{Call}
+use Rattle.ikc_ring.specs.declared.CallRequest.{CallRequest}
 use Rattle.kernel_model.specs.Progress.{After, is_file_step, next_kind, take_file_step}
 use Rattle.mck_word.specs.Maps.{at, put}
 use Rattle.proxy_worker.proofs.Parts.{put-same, service-changed, service-there, with-services}
@@ -34,7 +34,7 @@ not-held : Replied ≡ Held → ⊥
 not-held e = grind (arith, e)
 
 -- a state that a request has already
-pub state-same : (b : Book) (q : ℕ) (s : ReqState) (r : ReqState × Call) → at b.rows q ≡ Some r → r.0 ≡ s → with_state b q s ≡ b
+pub state-same : (b : Book) (q : ℕ) (s : ReqState) (r : ReqState × CallRequest) → at b.rows q ≡ Some r → r.0 ≡ s → with_state b q s ≡ b
 state-same b q s r e h =
     let rows : stated s (at b.rows q) q b.rows ≡ b.rows = ap (λ o. stated s o q b.rows) e ∙ (λ i. put b.rows q (sym h i, r.1)) ∙ put-same b.rows q r e in
     λ i. record b { rows = rows i }
@@ -42,7 +42,7 @@ state-same b q s r e h =
 pub held-same : (b : Book) (q : ℕ) → state_of b q ≡ Held → with_state b q Held ≡ b
 held-same b q h = go (at b.rows q) refl
   where
-    go : (o : Option (ReqState × Call)) → at b.rows q ≡ o → with_state b q Held ≡ b
+    go : (o : Option (ReqState × CallRequest)) → at b.rows q ≡ o → with_state b q Held ≡ b
     go None e = absurd (not-held (sym (ap (λ o. state_in o) e) ∙ h))
     go (Some r) e = state-same b q Held r e (sym (ap (λ o. state_in o) e) ∙ h)
 

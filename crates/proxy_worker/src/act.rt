@@ -26,8 +26,8 @@ impl Proxy {
         self.is_free_to_act(worker, book) && is_file_step(self.kind_for(worker, files))
     }
 
-    /// Makes the room that the file step of the worker's request needs. The proxy shows the same, and the files have the same
-    /// contents, also where memory lacks.
+    /// Makes the room that the file step of the worker's request needs. The proxy shows the same, and the files have
+    /// the same contents, also where memory lacks.
     pub fn make_room_for_act<S: FileStore>(
         &mut self,
         worker: u32,

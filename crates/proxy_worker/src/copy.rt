@@ -39,8 +39,8 @@ impl Proxy {
             && is_ready(self.kind_for(worker, files))
     }
 
-    /// Makes the room that the next piece of the worker's request needs. The proxy shows the same, and the files have the same
-    /// contents, also where memory lacks.
+    /// Makes the room that the next piece of the worker's request needs. The proxy shows the same, and the files have
+    /// the same contents, also where memory lacks.
     pub fn make_room_for_copy<S: FileStore>(
         &mut self,
         worker: u32,

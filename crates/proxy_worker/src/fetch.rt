@@ -14,7 +14,7 @@ use crate::proxy::Proxy;
 use crate::services::Service;
 use call_progress::Progress;
 use clear_rounds::Round;
-use ikc_ring::{Call, Msg};
+use ikc_ring::{CallRequest, Msg};
 use mck_flags::Rights;
 use mck_word::{Frame, PageRange, Req};
 use request_book::{Book, ReqState};
@@ -29,12 +29,12 @@ fn is_over(state: ReqState) -> bool
 
 impl Proxy {
     /// A call is served from here on, and waits for a worker.
-    fn fetch_request(&mut self, alloc: Global, call: &Call, book: &mut Book)
+    fn fetch_request(&mut self, alloc: Global, call: &CallRequest, book: &mut Book)
         requires posted { state_of book.old.requests call.now.q.0 ≡ states.Posted }
         requires room { HasServiceRoom self.old }
         ensures { (round : Option sides.Round) → fetched_as (linux_of self.new) book.new.requests round ≡ fetch_request call.now (linux_of self.old) book.old.requests round }
     {
-        let progress = Progress::of_call(alloc, call.number, &call.args);
+        let progress = Progress::of_call(alloc, call.call, &call.args);
         self.services.put(
             call.q.0,
             Service {

@@ -18,6 +18,7 @@ use file_calls::store::FileStore;
 use file_model::{Readiness, Target};
 use mck_flags::Rights;
 use mck_word::{Access, Frame, Piece, Req};
+use system_calls::errors::{EFAULT, EINTR};
 
 impl Proxy {
     /// The request that the worker serves: None exactly where it serves none.
@@ -97,7 +98,7 @@ impl Proxy {
     {
         match self.service(q) {
             Some(service) => service.progress.fault_answer(),
-            None => -14,
+            None => EFAULT,
         }
     }
 
@@ -107,7 +108,7 @@ impl Proxy {
     {
         match self.service(q) {
             Some(service) => service.progress.interrupted_answer(),
-            None => -4,
+            None => EINTR,
         }
     }
 
@@ -166,7 +167,8 @@ impl Proxy {
         self.next_kind(self.serves(worker), files)
     }
 
-    /// The mirror's row for the next piece of the worker's request: None where the page has none or it lacks the right.
+    /// The mirror's row for the next piece of the worker's request: None where the page has none or it lacks the
+    /// right.
     pub fn row_for(&self, worker: u32) -> Option<(Frame, Rights)>
         ensures { result ≡ row_for (linux_of self.now) worker }
     {

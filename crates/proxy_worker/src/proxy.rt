@@ -12,8 +12,8 @@ use mirror_tables::Mirror;
 use page_pins::Pins;
 use std::alloc::Global;
 
-/// What Linux keeps of a process: the mirror of its table, the pins of its workers, the request of each worker, the services by
-/// request, and the number of Clears that were fetched.
+/// What Linux keeps of a process: the mirror of its table, the pins of its workers, the request of each worker, the
+/// services by request, and the number of Clears that were fetched.
 #[derive(Drop)]
 pub struct Proxy {
     pub(crate) mirror: Mirror,

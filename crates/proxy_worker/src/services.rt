@@ -9,8 +9,8 @@ use crate::proxy::Proxy;
 use call_progress::Progress;
 use mck_word::Req;
 
-/// How far a fetched request is: its call's progress, whether its Interrupt was fetched, the worker that took it last, and its
-/// answer once it has ended.
+/// How far a fetched request is: its call's progress, whether its Interrupt was fetched, the worker that took it last,
+/// and its answer once it has ended.
 #[derive(Drop)]
 pub struct Service {
     pub progress: Progress,

@@ -52,7 +52,8 @@ impl Proxy {
         book.unparked(q);
     }
 
-    /// Gives the request, which is to wait for a worker again, the turn of its pipe's end, where its step is ready and no other has it.
+    /// Gives the request, which is to wait for a worker again, the turn of its pipe's end, where its step is ready and
+    /// no other has it.
     #[tactic(auto, unfolding(hybrid_model::specs::Unpark::turns_after_unpark))]
     pub fn take_turn<S: FileStore>(&self, q: Req, files: &S, pid: Pid, turns: &mut Turns)
         requires { HasTurnRoom turns.old }

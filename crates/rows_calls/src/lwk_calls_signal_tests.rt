@@ -3,7 +3,7 @@ ghost use Rattle.lwk_space.specs.Rows.{FramesApart, FramesIn};
 ghost use Rattle.mck_word.specs.Maps.{no_rows};
 ghost use Rattle.std.specs.Prelude.{◌≡◌, IfOk, length};
 
-use crate::one_guest::{PID, TID, answer, one_thread};
+use crate::one_guest::{INVALID, NO_PROCESS, PID, TID, answer, one_thread};
 use frame_mem::FrameMem;
 use frame_pool::FramePool;
 use kernel_model::Action;
@@ -44,9 +44,9 @@ fn signals_are_sent(rt: HostRuntime) {
     tgkill(&mut node, TID, 1, 1, 12);
     assert_eq!(rt; (answer(&node), node.own_pending(TID)), (0, SigSet(2048)));
     kill(&mut node, TID, 2, 10);
-    assert_eq!(rt; answer(&node), 0xffff_ffff_ffff_fffd);
+    assert_eq!(rt; answer(&node), NO_PROCESS);
     kill(&mut node, TID, 1, 19);
-    assert_eq!(rt; answer(&node), 0xffff_ffff_ffff_ffea);
+    assert_eq!(rt; answer(&node), INVALID);
 }
 
 #[test]

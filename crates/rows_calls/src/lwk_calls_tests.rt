@@ -1,4 +1,5 @@
 // Local calls.
+use crate::one_guest::INVALID;
 use kernel_tables::KernelTables;
 use lwk_calls::{getpid, getppid, gettid, sets_clear_address, sets_robust_list};
 use mck_flags::SigSet;
@@ -20,5 +21,5 @@ fn a_thread_tells_its_numbers(rt: HostRuntime) {
     sets_clear_address(&mut node, Tid(2), 72);
     assert_eq!(rt; node.clear_address(Tid(2)), 72);
     sets_robust_list(&mut node, Tid(2), 8);
-    assert_eq!(rt; node.regs(Tid(2)).x[10], 0xffff_ffff_ffff_ffea);
+    assert_eq!(rt; node.regs(Tid(2)).x[10], INVALID);
 }

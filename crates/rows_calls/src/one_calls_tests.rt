@@ -1,5 +1,5 @@
 // The calls of the one-kernel machine at concrete values, over a memory without pages.
-use crate::one_guest::{PID, TID, answer, one_thread};
+use crate::one_guest::{BAD_ADDRESS, INVALID, NO_CHILD, NO_PROCESS, PID, TID, answer, one_thread};
 use kernel_model::{Action, Life};
 use mck_flags::SigSet;
 use mck_word::End;
@@ -9,15 +9,6 @@ use one_calls::{
 };
 use one_memory::PageRows;
 use std::test::*;
-
-// The words of -ESRCH, -ECHILD, -EFAULT and -EINVAL.
-const NO_PROCESS: u64 = 0xffff_ffff_ffff_fffd;
-
-const NO_CHILD: u64 = 0xffff_ffff_ffff_fff6;
-
-const BAD_ADDRESS: u64 = 0xffff_ffff_ffff_fff2;
-
-const INVALID: u64 = 0xffff_ffff_ffff_ffea;
 
 #[test]
 fn a_thread_tells_its_numbers(rt: HostRuntime) {

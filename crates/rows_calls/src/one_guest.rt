@@ -12,6 +12,15 @@ pub const PID: Pid = Pid(1);
 
 pub const TID: Tid = Tid(1);
 
+// The words of -ESRCH, -ECHILD, -EFAULT and -EINVAL.
+pub const NO_PROCESS: u64 = 0xffff_ffff_ffff_fffd;
+
+pub const NO_CHILD: u64 = 0xffff_ffff_ffff_fff6;
+
+pub const BAD_ADDRESS: u64 = 0xffff_ffff_ffff_fff2;
+
+pub const INVALID: u64 = 0xffff_ffff_ffff_ffea;
+
 /// A process that lives and has run nothing.
 pub fn guest() -> Process
     ensures { result.instructions ≡ 0 }

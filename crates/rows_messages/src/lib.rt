@@ -1,10 +1,11 @@
-//! Tests of messages, requests, rounds, pins and the mirror, of the plans of calls, and of a proxy with its workers.
+//! Tests of messages, requests, rounds, pins and the mirror, of the numbers, phases and acts of calls, and of a proxy
+//! with its workers.
 //!
 //! Promises nothing of its own: a module has the tests of the crate that its name begins with.
 #![tactic(auto)]
 
 #[cfg(test)]
-mod call_plan_tests;
+mod call_phases_tests;
 #[cfg(test)]
 mod call_progress_tests;
 #[cfg(test)]
@@ -19,3 +20,5 @@ mod page_pins_tests;
 mod proxy_worker_tests;
 #[cfg(test)]
 mod request_book_tests;
+#[cfg(test)]
+mod system_calls_tests;

@@ -1,20 +1,21 @@
 // A worker that faults and is answered, and the turns at pipes.
 use clear_rounds::Round;
-use ikc_ring::{Call, Msg};
+use ikc_ring::{CallRequest, Msg};
 use mck_flags::Rights;
 use mck_word::{Access, Frame, NoMemory, PageRange, Pid, Req, Tid};
 use proxy_worker::{Proxy, Turn, Turns};
 use request_book::{Book, ReqState};
 use std::alloc::Global;
 use std::test::Fail;
+use system_calls::FileCall;
 
 // Posts a write of five bytes.
-fn post(book: &mut Book) -> Result<Call, NoMemory> {
+fn post(book: &mut Book) -> Result<CallRequest, NoMemory> {
     book.reserve()?;
-    let call = Call {
+    let call = CallRequest {
         q: book.fresh(),
         tid: Tid(17),
-        number: 64,
+        call: FileCall::Write,
         args: [1, 0x1000, 5, 0, 0, 0],
     };
     if call.q.0 < u64::MAX - 1 {
@@ -26,7 +27,7 @@ fn post(book: &mut Book) -> Result<Call, NoMemory> {
 fn fetch_call(
     proxy: &mut Proxy,
     alloc: Global,
-    call: Call,
+    call: CallRequest,
     book: &mut Book,
     round: &mut Round,
 ) -> Result<(), NoMemory> {

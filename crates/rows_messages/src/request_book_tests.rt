@@ -1,19 +1,20 @@
 // Requests that are posted, served and answered.
-use ikc_ring::Call;
+use ikc_ring::CallRequest;
 use mck_word::{NoMemory, Req, Tid};
 use request_book::{Book, ReqState};
 use std::process::Abort;
 use std::test::Fail;
+use system_calls::FileCall;
 
 // Posts a call of thread 1, where the numbers last.
 fn post(book: &mut Book) -> Result<Req, NoMemory> {
     book.reserve()?;
     let q = book.fresh();
     if q.0 < u64::MAX - 1 {
-        let call = Call {
+        let call = CallRequest {
             q,
             tid: Tid(1),
-            number: 64,
+            call: FileCall::Write,
             args: [1, 2, 3, 0, 0, 0],
         };
         return Ok(book.number(call));

@@ -1,13 +1,14 @@
 // Memory calls over a space without a page.
 use frame_mem::FrameMem;
 use frame_pool::FramePool;
-use ikc_ring::Call;
 use kernel_model::Change;
 use lwk_changes::{decide, finish, make, make_room_for};
 use lwk_space::Space;
 use mck_flags::Rights;
-use mck_word::{NoMemory, PageRange, Req, Tid};
+use mck_word::{NoMemory, PageRange};
 use page_map::{PageMap, PageTable};
+use system_calls::MemoryCall;
+use system_calls::errors::ENOMEM;
 use vm_calls::{AtEnd, VmPlan};
 
 #[test]
@@ -18,14 +19,9 @@ fn an_empty_space(rt: HostRuntime) {
     let mut pool = FramePool::new(rt.alloc(), 4).expect(&rt, "memory");
     let range = PageRange { lo: 0x20, hi: 0x22 };
     let rights = Rights(3);
-    let unmap = Call {
-        q: Req(1),
-        tid: Tid(1),
-        number: 215,
-        args: [0x2_0000, 0x2000, 0, 0, 0, 0],
-    };
+    let unmap = [0x2_0000, 0x2000, 0, 0, 0, 0];
     assert_eq!(rt;
-        decide(&own, 0x1_2345, 0x1_2000, 4, &unmap),
+        decide(&own, 0x1_2345, 0x1_2000, 4, MemoryCall::Munmap, &unmap),
         VmPlan::Reply(0)
     );
     // two pages want two frames
@@ -33,7 +29,7 @@ fn an_empty_space(rt: HostRuntime) {
     assert_eq!(rt; finish(&own, 0x1_2345, 0x1_2000, 2, &map), AtEnd::Make);
     assert_eq!(rt;
         finish(&own, 0x1_2345, 0x1_2000, 1, &map),
-        AtEnd::Reply(-12)
+        AtEnd::Reply(ENOMEM)
     );
     let change = Change::Unmap(range);
     make_room_for(&mut own, 0x1_2345, &change).expect(&rt, "memory");

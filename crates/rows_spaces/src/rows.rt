@@ -6,26 +6,18 @@ ghost use Rattle.std.specs.Option.{ForSome};
 use crate::checks::{all_present, frames_in, map_new};
 use frame_mem::FrameMem;
 use frame_pool::FramePool;
-use ikc_ring::Call;
 use isa_model::Lack;
 use kernel_model::Change;
 use lwk_space::Space;
 use mck_flags::Rights;
-use mck_word::{Access, Frame, NoMemory, PageRange, Req, Tid};
+use mck_word::{Access, Frame, NoMemory, PageRange};
 use page_map::{PageMap, PageTable};
 use std::alloc::Global;
 use std::test::Fail;
 use sv_table::SvTable;
+use system_calls::MemoryCall;
+use system_calls::errors::ENOMEM;
 use vm_calls::{Facts, VmPlan, decide};
-
-fn call(number: u64, args: [u64; 6]) -> Call {
-    Call {
-        q: Req(1),
-        tid: Tid(1),
-        number,
-        args,
-    }
-}
 
 fn facts(free: u64, gap: Option<u64>, present: u64, lessens: bool) -> Facts
     ensures brk { result.brk < 2 ^ 63 }
@@ -46,8 +38,9 @@ fn facts(free: u64, gap: Option<u64>, present: u64, lessens: bool) -> Facts
     }
 }
 
-// Frames run out: of thirty-three a guest's boot takes eighteen (a page, sixteen of stack, the trampoline). A map of fifteen pages is
-// decided and made, one of one page is refused. Answers how many are free on the way, and the two decisions.
+// Frames run out: of thirty-three a guest's boot takes eighteen (a page, sixteen of stack, the trampoline). A map of
+// fifteen pages is decided and made, one of one page is refused. Answers how many are free on the way, and the two
+// decisions.
 fn frames_run_out<T: PageTable + Drop>(
     alloc: Global,
 ) -> Result<([u64; 3], VmPlan, VmPlan), NoMemory> {
@@ -70,16 +63,20 @@ fn frames_run_out<T: PageTable + Drop>(
         let _ = map_new(&mut space, r, Rights(7), &mut mem, &mut pool);
     }
     free[0] = pool.free();
-    let fifteen = call(222, [0, 15 * 4096, 3, 0x22, 0xffff_ffff_ffff_ffff, 0]);
+    let fifteen = [0, 15 * 4096, 3, 0x22, 0xffff_ffff_ffff_ffff, 0];
     let gap = space.areas().gap(15);
-    let first = decide(&facts(pool.free(), gap, 0, false), &fifteen);
+    let first = decide(
+        &facts(pool.free(), gap, 0, false),
+        MemoryCall::Mmap,
+        &fifteen,
+    );
     if let VmPlan::Now(Change::Map { range, rights }) = first {
         let _ = map_new(&mut space, range, rights, &mut mem, &mut pool);
     }
     free[1] = pool.free();
-    let one = call(222, [0, 4096, 3, 0x22, 0xffff_ffff_ffff_ffff, 0]);
+    let one = [0, 4096, 3, 0x22, 0xffff_ffff_ffff_ffff, 0];
     let gap = space.areas().gap(1);
-    let second = decide(&facts(pool.free(), gap, 0, false), &one);
+    let second = decide(&facts(pool.free(), gap, 0, false), MemoryCall::Mmap, &one);
     let _ = map_new(
         &mut space,
         PageRange { lo: 0x20, hi: 0x21 },
@@ -109,7 +106,7 @@ fn frames_run_out_on_both(rt: HostRuntime) -> Result<(), Fail> {
                 rights: Rights(3)
             })
         );
-        assert_eq!(rt; second, VmPlan::Reply(-12));
+        assert_eq!(rt; second, VmPlan::Reply(ENOMEM));
     }
     Ok(())
 }
@@ -128,8 +125,9 @@ fn piece<T: PageTable>(
     space.read(mem, address, &mut bytes[..len])
 }
 
-// A write of 8,192 bytes from the middle of two pages on: its pieces of 2,048 and of 4,096 bytes can be read, and the third is at an
-// absent page. Answers what each piece comes to, and then the whole, and a write from an address where nothing is.
+// A write of 8,192 bytes from the middle of two pages on: its pieces of 2,048 and of 4,096 bytes can be read, and the
+// third is at an absent page. Answers what each piece comes to, and then the whole, and a write from an address where
+// nothing is.
 fn short_write<T: PageTable + Drop>(alloc: Global) -> Result<[Result<(), Lack>; 5], NoMemory> {
     let mut mem = FrameMem::new(alloc, 4)?;
     let mut pool = FramePool::new(alloc, 4)?;
@@ -180,7 +178,8 @@ fn short_write_on_both(rt: HostRuntime) -> Result<(), Fail> {
     Ok(())
 }
 
-// A right is added to a page that has the read right, without a round. Answers the decision, and the frame for a write before and after.
+// A right is added to a page that has the read right, without a round. Answers the decision, and the frame for a write
+// before and after.
 fn right_added<T: PageTable + Drop>(
     alloc: Global,
 ) -> Result<(VmPlan, Option<(Frame, Rights)>, Option<(Frame, Rights)>), NoMemory> {
@@ -198,7 +197,8 @@ fn right_added<T: PageTable + Drop>(
     let before = space.frame_at(0x20, Access::Write);
     let plan = decide(
         &facts(pool.free(), None, 1, false),
-        &call(226, [0x2_0000, 4096, 3, 0, 0, 0]),
+        MemoryCall::Mprotect,
+        &[0x2_0000, 4096, 3, 0, 0, 0],
     );
     if let VmPlan::Now(Change::Protect { range, rights }) = plan {
         if range.lo <= range.hi && all_present(space.table(), &range) {

@@ -16,17 +16,21 @@ use Rattle.isa_model.specs.declared.stops.Stop.{Stop}
 use Rattle.isa_model.specs.declared.stops.Stop.TheVariants.{Ecall}
 use Rattle.kernel_model.specs.Nodes.{process_of, thread_of, ScriptLine, is_living, lives, stop_in}
 use Rattle.kernel_model.specs.declared.ranges.Range.{Range}
-use Rattle.kernel_model.specs.Plans.{Phase as CallPhase, Gather, Act as ActPhase, Scatter, Stream}
+use Rattle.kernel_model.specs.CallPhases.{Phase as CallPhase, Gather, Act as ActPhase, Scatter, Stream}
 use Rattle.kernel_model.specs.Progress.{Progress}
 use Rattle.kernel_model.specs.SignalSets.{has}
 use Rattle.kernel_model.specs.Signals.{frame_size}
-use Rattle.kernel_model.specs.Traps.{is_error, line_of}
+use Rattle.kernel_model.specs.Traps.{call_named, is_error, line_of}
 use Rattle.mck_word.specs.Identifiers.{tid}
 use Rattle.mck_word.specs.Lists.{count_from}
 use Rattle.mck_word.specs.Maps.{count}
 use Rattle.mck_word.specs.declared.Access.TheVariants.{Read}
 use Rattle.mck_word.specs.declared.Regs.{Regs}
-use Rattle.std.specs.Prelude.{Bool, List, None, Option, Some, [], cond, count_by, false, filter, length, not, set, sum_by, true, ℕ, ◌*◌, ◌+◌, ◌/◌, ◌∷◌, ◌%◌, ◌&&◌, ◌==◌, ◌^◌}
+use Rattle.std.specs.Prelude.{Bool, List, None, Option, Some, [], count_by, false, filter, length, not, set, sum_by, true, ℕ, ◌*◌, ◌+◌, ◌/◌, ◌∷◌, ◌%◌, ◌&&◌, ◌==◌, ◌^◌}
+use Rattle.system_calls.specs.declared.LocalCall.{LocalCall}
+use Rattle.system_calls.specs.declared.LocalCall.TheVariants.{Kill, RtSigreturn, Tgkill}
+use Rattle.system_calls.specs.declared.SystemCall.{SystemCall}
+use Rattle.system_calls.specs.declared.SystemCall.TheVariants.{Local}
 
 -- ---- work
 
@@ -47,14 +51,19 @@ if_so true = 1
 if_so false = 0
 
 -- a kill or tgkill that answers 0 and whose signal isn't 0, and a return from a handler whose frame can't be read
-abbrev pub generated_by_call : Pair → ℕ → Regs → Regs → ℕ
-generated_by_call pair p before now = cond (reg before 17 == 129) (if_so (reg now 10 == 0 && not (reg before 11 % 2 ^ 32 == 0)))
-    (cond (reg before 17 == 131) (if_so (reg now 10 == 0 && not (reg before 12 % 2 ^ 32 == 0)))
-    (cond (reg before 17 == 139) (if_so (not (may_access (memory_here (here pair p)) Read (reg before 2) frame_size))) 0))
+abbrev pub generated_by_local : Pair → ℕ → Regs → Regs → LocalCall → ℕ
+generated_by_local pair p before now Kill = if_so (reg now 10 == 0 && not (reg before 11 % 2 ^ 32 == 0))
+generated_by_local pair p before now Tgkill = if_so (reg now 10 == 0 && not (reg before 12 % 2 ^ 32 == 0))
+generated_by_local pair p before now RtSigreturn = if_so (not (may_access (memory_here (here pair p)) Read (reg before 2) frame_size))
+generated_by_local pair p before now _ = 0
+
+abbrev pub generated_by_call : Pair → ℕ → Regs → Regs → Option SystemCall → ℕ
+generated_by_call pair p before now (Some (Local call)) = generated_by_local pair p before now call
+generated_by_call pair p before now _ = 0
 
 abbrev pub generated_by_stop : Pair → ℕ → Option Stop → ℕ
 generated_by_stop pair t None = 0
-generated_by_stop pair t (Some Ecall) = let x = thread_of pair.node t in generated_by_call pair x.process x.regs (thread_of (after pair (Trap (tid t))).node t).regs
+generated_by_stop pair t (Some Ecall) = let x = thread_of pair.node t in generated_by_call pair x.process x.regs (thread_of (after pair (Trap (tid t))).node t).regs (call_named x.regs)
 generated_by_stop pair t (Some stop) = 1
 
 abbrev pub generated_by_message : Bool → Option Msg → ℕ

@@ -7,17 +7,15 @@ use Rattle.hybrid_model.specs.OneProcess.{set_break, view_here}
 use Rattle.hybrid_model.specs.Trap.{after_trap, trapped}
 use Rattle.hybrid_model.specs.Pairs.{Here}
 use Rattle.isa_model.specs.Memory.{may_access}
-use Rattle.isa_model.specs.Registers.{reg}
 use Rattle.isa_model.specs.declared.stops.Stop.TheVariants.{Break, Ecall, Illegal, Misaligned, On, Fault as StopFault}
 use Rattle.isa_model.specs.declared.stops.Stop.{Stop}
-use Rattle.kernel_model.specs.Calls.{local_call, one_of_calls}
+use Rattle.kernel_model.specs.Calls.{clone_call, local_call}
 use Rattle.kernel_model.specs.CloneCalls.{CallDone, are_clone_flags, are_fork_flags, child_thread, clone, clone_or_fork, cloned_thread, clones, forks, with_child, with_thread}
 use Rattle.kernel_model.specs.LocalCalls.{answers, refuses}
 use Rattle.kernel_model.specs.MemoryCalls.{Decision, Now, Reply as DecidedReply, Round as DecidedRound, answer_of_change, decide, effect_of}
 use Rattle.kernel_model.specs.Nodes.{Node, Thread, answered, most_processes, most_threads, process_of, set_does, set_pc, stop_in, thread_of, threads_of}
-use Rattle.kernel_model.specs.Plans.{Delegated, Local, Plan, Unknown, Vm, plan}
 use Rattle.kernel_model.specs.Signals.{View, on_node, raised, signal_of_stop, store}
-use Rattle.kernel_model.specs.Traps.{Begins, Changes, Done, Forks, Trapped, arguments_of, cloned, decided, finishes, past_ecall, planned, trap, trap_of_stop}
+use Rattle.kernel_model.specs.Traps.{Begins, Changes, Done, Forks, Trapped, arguments_of, call_named, called, cloned, decided, finishes, past_ecall, trap, trap_of_stop}
 use Rattle.kernel_model.specs.declared.Does.TheVariants.{Called, InVm}
 use Rattle.mck_word.specs.MapLaws.{at-put}
 use Rattle.mck_word.specs.Maps.{at, count}
@@ -28,6 +26,9 @@ use Rattle.mck_word.specs.declared.Tid.{Tid}
 use Rattle.std.proofs.Common.{ap, arith, refl, sym, ◌∙◌}
 use Rattle.std.proofs.lemmas.Bool.Decides.{nat_tests}
 use Rattle.std.specs.Prelude.{Bool, List, None, Option, Some, cond, false, get_or, length, nat_le, nat_lt, not, pos, true, ℕ, ℤ, ◌+◌, ◌==◌, ◌||◌, ◌≡◌}
+use Rattle.system_calls.specs.declared.LocalCall.{LocalCall}
+use Rattle.system_calls.specs.declared.SystemCall.TheVariants.{Clone, File, Local, Memory}
+use Rattle.system_calls.specs.declared.SystemCall.{SystemCall}
 use Rattle.thread_laws.proofs.Members.{OnlyOwn, TrapThreads}
 use Rattle.thread_laws.proofs.Others.{answered-same}
 use Rattle.thread_laws.proofs.Stays.{changed-same, joined-own, own-closed, own-of-same, same-process}
@@ -166,25 +167,25 @@ module _ (t frames : ℕ) (v : View) (unmade : process_at v.node v.node.next_num
       go true false false = forks-leaves flags stack parent_tid tls child_tid
       go false c d = clone-leaves flags stack parent_tid tls child_tid
 
-  local-leaves : (number : ℕ) (arguments : List ℕ) → TrapLeaves t v (cloned (local_call t frames number arguments behind))
+  local-leaves : (call : LocalCall) (arguments : List ℕ) → TrapThreads t v.node (local_call t call arguments behind).node
   unfolding local_call
-  local-leaves number arguments = go (number == 220) (fork-leaves (get_or arguments 0 0) (get_or arguments 1 0) (get_or arguments 2 0) (get_or arguments 3 0) (get_or arguments 4 0))
-    where
-      go : (b : Bool) → TrapLeaves t v (cloned (clone_or_fork t frames (get_or arguments 0 0) (get_or arguments 1 0) (get_or arguments 2 0) (get_or arguments 3 0) (get_or arguments 4 0) behind))
-          → TrapLeaves t v (cloned (cond b (clone_or_fork t frames (get_or arguments 0 0) (get_or arguments 1 0) (get_or arguments 2 0) (get_or arguments 3 0) (get_or arguments 4 0) behind) (CallDone (one_of_calls t number (λ k. get_or arguments k 0) behind))))
-      go true k = k
-      go false k = of-own (one_of_calls t number (λ j. get_or arguments j 0) behind).node (calls-closed t (OnlyOwn t) (OnlyOwn t) (own-closed t) number (λ j. get_or arguments j 0) behind)
+  local-leaves call arguments = of-own (local_call t call arguments behind).node (calls-closed t (OnlyOwn t) (OnlyOwn t) (own-closed t) call (λ j. get_or arguments j 0) behind)
+
+  clone_call-leaves : (arguments : List ℕ) → TrapLeaves t v (cloned (clone_call t frames arguments behind))
+  unfolding clone_call
+  clone_call-leaves arguments = fork-leaves (get_or arguments 0 0) (get_or arguments 1 0) (get_or arguments 2 0) (get_or arguments 3 0) (get_or arguments 4 0)
 
   decided-leaves : (d : Decision) → TrapLeaves t v (decided t behind d)
   decided-leaves (DecidedReply answer) = replied answer
   decided-leaves (Now change) = past-same
   decided-leaves (DecidedRound change) = of-same (set_does t (InVm change) behind.node) (changed-same behind.node t (λ x. record x { does = InVm change }) (λ x. refl))
 
-  planned-leaves : (is : Plan) → TrapLeaves t v (planned t frames own_regs behind is)
-  planned-leaves Unknown = replied (refused ENOSYS)
-  planned-leaves Local = local-leaves (reg own_regs 17) (arguments_of own_regs)
-  planned-leaves Vm = decided-leaves (decide (process_of behind.node (thread_of behind.node t).process) v.memory frames (reg own_regs 17) (arguments_of own_regs))
-  planned-leaves (Delegated phases) = past-same
+  called-leaves : (o : Option SystemCall) → TrapLeaves t v (called t frames own_regs behind o)
+  called-leaves None = replied (refused ENOSYS)
+  called-leaves (Some Clone) = clone_call-leaves (arguments_of own_regs)
+  called-leaves (Some (Local call)) = local-leaves call (arguments_of own_regs)
+  called-leaves (Some (Memory call)) = decided-leaves (decide (process_of behind.node (thread_of behind.node t).process) v.memory frames call (arguments_of own_regs))
+  called-leaves (Some (File call)) = past-same
 
   trap-leaves : TrapLeaves t v (trap t frames v)
   unfolding trap
@@ -195,7 +196,7 @@ module _ (t frames : ℕ) (v : View) (unmade : process_at v.node v.node.next_num
 
       go : (o : Option Stop) → TrapLeaves t v (trap_of_stop t frames v o)
       go None = trap-of-same t v.node unmade other v.node (λ u. refl)
-      go (Some Ecall) = planned-leaves (plan (reg own_regs 17) (arguments_of own_regs))
+      go (Some Ecall) = called-leaves (call_named own_regs)
       go (Some On) = raise On
       go (Some Break) = raise Break
       go (Some Illegal) = raise Illegal

@@ -1,6 +1,6 @@
 -- What holds of one process is had from there being some proof of it: mirror, rounds and messages.
 use Rattle.clear_rounds.specs.contracts.Phase as phase
-use Rattle.ikc_ring.specs.contracts.Call as call
+use Rattle.ikc_ring.specs.contracts.CallRequest as call
 use Rattle.kernel_model.specs.contracts.Does as does
 use Rattle.mck_word.specs.contracts.Frame as frame
 use Rattle.mck_word.specs.contracts.PageRange as page_range
@@ -8,7 +8,7 @@ use Rattle.request_book.specs.contracts.ReqState as request_state
 use Rattle.hybrid_model.specs.Coherence.{AnswerCovered, AtMostInterrupt, AtMostRequest, CallsAgree, ClearIsOf, Covered, Covers, Directions, InOwnRing, Includes, InterruptIs, IsOutside, IsPart, Marked, Messages, NotAhead, OnlyOwn, Owned, Owns, Placed, RequestIs, Rounded, of_place, state_at}
 use Rattle.hybrid_model.specs.Sides.{Caller, Round, Row, Service}
 use Rattle.hybrid_model.specs.Tallies.{Reads}
-use Rattle.ikc_ring.specs.declared.Call.{Call}
+use Rattle.ikc_ring.specs.declared.CallRequest.{CallRequest}
 use Rattle.ikc_ring.specs.declared.Msg.TheVariants.{Request, Clear, Answer, Interrupt}
 use Rattle.ikc_ring.specs.declared.Msg.{Msg}
 use Rattle.kernel_model.specs.MemoryCalls.{closing_range}
@@ -118,11 +118,11 @@ calls-told p threads callers t = record {
   there = λ k c e. (let x : Found (threads k) (λ x. x.process ≡ p) = found-told (λ x. nat-told) (threads k) (∥∥₁_map t (λ y. let z = y.there k c e in record { value = z.0; there = z.1; rest = z.2 })) in (x.value, x.there, x.rest));
 }
 
-pub request-told : (rows : Reads (ReqState × Call)) (m : Msg) → Told (RequestIs rows m)
+pub request-told : (rows : Reads (ReqState × CallRequest)) (m : Msg) → Told (RequestIs rows m)
 request-told rows (Request c) t = data-told (coded_option (coded× request_state.the_row.coded call.the_row.coded)) (rows c.q.0) _ t
 request-told rows _ t = tt
 
-pub interrupt-told : (next : ℕ) (rows : Reads (ReqState × Call)) (threads : Reads Thread) (m : Msg) → Told (InterruptIs next rows threads m)
+pub interrupt-told : (next : ℕ) (rows : Reads (ReqState × CallRequest)) (threads : Reads Thread) (m : Msg) → Told (InterruptIs next rows threads m)
 interrupt-told next rows threads (Interrupt q place) t = (lt-told (∥∥₁_map t (λ x. x.0)), lt-told (∥∥₁_map t (λ x. x.1)), λ e. bool-told (∥∥₁_map t (λ x. x.2 e)))
 interrupt-told next rows threads _ t = tt
 
@@ -146,21 +146,21 @@ is-part-told : (state : ℕ → ReqState) (ms : List Msg) → Told (IsPart state
 is-part-told state (Interrupt n place ∷ ms) t = (nat-told (∥∥₁_map t (λ x. x.0)), at-most-request-told ms (∥∥₁_map t (λ x. x.1)))
 is-part-told state ms t = at-most-request-told ms t
 
-own-ring-told : (ring_of : ℕ → ℕ) (rows : Reads (ReqState × Call)) (r : ℕ) (m : Msg) → Told (InOwnRing ring_of rows r m)
+own-ring-told : (ring_of : ℕ → ℕ) (rows : Reads (ReqState × CallRequest)) (r : ℕ) (m : Msg) → Told (InOwnRing ring_of rows r m)
 own-ring-told ring_of rows r (Request c) t = nat-told t
 own-ring-told ring_of rows r (Interrupt q place) t = λ e. nat-told (∥∥₁_map t (λ x. x e))
 own-ring-told ring_of rows r _ t = tt
 
-placed-told : (rows : Reads (ReqState × Call)) (threads : Reads Thread) (ring_of : ℕ → ℕ) (r : ℕ) (ms : List Msg) → Told (Placed rows threads ring_of r ms)
+placed-told : (rows : Reads (ReqState × CallRequest)) (threads : Reads Thread) (ring_of : ℕ → ℕ) (r : ℕ) (ms : List Msg) → Told (Placed rows threads ring_of r ms)
 placed-told rows threads ring_of r ms t = record {
   parts = λ k. is-part-told (state_at rows) (of_place threads k ms) (∥∥₁_map t (λ x. x.parts k));
   own = each-told (own-ring-told ring_of rows r) ms (∥∥₁_map t (λ x. x.own));
 }
 
-only-told : (rows : Reads (ReqState × Call)) (threads : Reads Thread) (ring_of : ℕ → ℕ) (callers : Reads Caller) (r : ℕ) (ms : List Msg) → Told (OnlyOwn rows threads ring_of callers r ms)
+only-told : (rows : Reads (ReqState × CallRequest)) (threads : Reads Thread) (ring_of : ℕ → ℕ) (callers : Reads Caller) (r : ℕ) (ms : List Msg) → Told (OnlyOwn rows threads ring_of callers r ms)
 only-told rows threads ring_of callers r ms t = λ k x c e f g h. at-most-interrupt-told c.request (of_place threads x.place ms) (∥∥₁_map t (λ y. y k x c e f g h))
 
-pub messages-told : (rows : Reads (ReqState × Call)) (threads : Reads Thread) (ring_of : ℕ → ℕ) (callers : Reads Caller) (rings : List (List Msg)) → Told (Messages rows threads ring_of callers rings)
+pub messages-told : (rows : Reads (ReqState × CallRequest)) (threads : Reads Thread) (ring_of : ℕ → ℕ) (callers : Reads Caller) (rings : List (List Msg)) → Told (Messages rows threads ring_of callers rings)
 messages-told rows threads ring_of callers rings t = record {
   placed = numbered-told (placed-told rows threads ring_of) 0 rings (∥∥₁_map t (λ x. x.placed));
   only = numbered-told (only-told rows threads ring_of callers) 0 rings (∥∥₁_map t (λ x. x.only));

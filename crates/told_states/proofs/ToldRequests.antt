@@ -4,7 +4,7 @@ use Rattle.request_book.specs.contracts.ReqState as request_state
 use Rattle.hybrid_model.specs.Coherence.{Answered, AnswerIsFor, AnswersNext, CallHolds, FaultIsFor, IsAwaited, IsForNext, PinServes, ReplyIsAwaited, Served, calls_it, is_faulted, service_at, state_at}
 use Rattle.hybrid_model.specs.Sides.{Caller, Noted, Row, Service}
 use Rattle.hybrid_model.specs.Tallies.{Reads}
-use Rattle.ikc_ring.specs.declared.Call.{Call}
+use Rattle.ikc_ring.specs.declared.CallRequest.{CallRequest}
 use Rattle.ikc_ring.specs.declared.Msg.TheVariants.{Answer, Fault, Reply}
 use Rattle.ikc_ring.specs.declared.Msg.{Msg}
 use Rattle.isa_model.specs.Memory.{allows}
@@ -73,14 +73,14 @@ answer-for-told : (workers : Reads ℕ) (services : Reads Service) (m : Msg) →
 answer-for-told workers services (Answer w page number row) t = answers-next-told workers services w page row t
 answer-for-told workers services _ t = tt
 
-pub record PinNextIs (rows : Reads (ReqState × Call)) (services : Reads Service) (x : Pin) (number : ℕ) : Type 0 where
+pub record PinNextIs (rows : Reads (ReqState × CallRequest)) (services : Reads Service) (x : Pin) (number : ℕ) : Type 0 where
   pub not_faulted : is_faulted (state_at rows number) ≡ 0
   pub held : x.copied ≡ false → state_at rows number ≡ Held
   pub left : x.copied ≡ false → has_piece (service_at services number).progress ≡ true
   pub page_is : x.copied ≡ false → (next_piece (service_at services number).progress).page ≡ x.page
   pub right : x.copied ≡ false → allows (needed_access (service_at services number).progress) x.rights ≡ true
 
-pin-next-told : (rows : Reads (ReqState × Call)) (services : Reads Service) (x : Pin) (number : ℕ) → Told (PinNextIs rows services x number)
+pin-next-told : (rows : Reads (ReqState × CallRequest)) (services : Reads Service) (x : Pin) (number : ℕ) → Told (PinNextIs rows services x number)
 pin-next-told rows services x number t = record {
   not_faulted = nat-told (∥∥₁_map t (λ y. y.not_faulted));
   held = λ e. data-told request_state.the_row.coded (state_at rows number) Held (∥∥₁_map t (λ y. y.held e));
@@ -89,13 +89,13 @@ pin-next-told rows services x number t = record {
   right = λ e. bool-told (∥∥₁_map t (λ y. y.right e));
 }
 
-pin-serves-told : (workers : Reads ℕ) (rows : Reads (ReqState × Call)) (services : Reads Service) (w : ℕ) (x : Pin) → Told (PinServes workers rows services w x)
+pin-serves-told : (workers : Reads ℕ) (rows : Reads (ReqState × CallRequest)) (services : Reads Service) (w : ℕ) (x : Pin) → Told (PinServes workers rows services w x)
 pin-serves-told workers rows services w x t =
     let y : Found (workers w) (PinNextIs rows services x) = found-told (pin-next-told rows services x) (workers w)
     (∥∥₁_map t (λ z. record { value = z.number; there = z.serves; rest = record { not_faulted = z.not_faulted; held = z.held; left = z.left; page_is = z.page_is; right = z.right } })) in
     record { number = y.value; serves = y.there; not_faulted = y.rest.not_faulted; held = y.rest.held; left = y.rest.left; page_is = y.rest.page_is; right = y.rest.right }
 
-pub served-told : (worker_count : ℕ) (workers : Reads ℕ) (rows : Reads (ReqState × Call)) (services : Reads Service) (pins : Reads Pin) (waiting : List ℕ) (noted : Reads Noted) (rings : List (List Msg)) (bs : List Msg)
+pub served-told : (worker_count : ℕ) (workers : Reads ℕ) (rows : Reads (ReqState × CallRequest)) (services : Reads Service) (pins : Reads Pin) (waiting : List ℕ) (noted : Reads Noted) (rings : List (List Msg)) (bs : List Msg)
     → Told (Served worker_count workers rows services pins waiting noted rings bs)
 served-told worker_count workers rows services pins waiting noted rings bs t = record {
   worker_below = λ w q e. lt-told (∥∥₁_map t (λ x. x.worker_below w q e));
@@ -120,24 +120,24 @@ calls-caller : (q : ℕ) (o : Option Caller) → calls_it q o ≡ true → Found
 calls-caller q None e = absurd (grind (arith, e))
 calls-caller q (Some c) e = record { value = c; there = refl; rest = grind (arith, nat_tests, e) }
 
-awaited-told : (rows : Reads (ReqState × Call)) (callers : Reads Caller) (q : ℕ) → Told (IsAwaited rows callers q)
+awaited-told : (rows : Reads (ReqState × CallRequest)) (callers : Reads Caller) (q : ℕ) → Told (IsAwaited rows callers q)
 awaited-told rows callers q t =
     let x : Passes (λ k. calls_it q (callers k)) = passes-told (λ k. calls_it q (callers k)) (∥∥₁_map t (λ y. record { number = y.thread; passes = calls-same callers q y.thread y.caller y.calls y.number })) in
     let c : Found (callers x.number) (λ c. c.request ≡ q) = calls-caller q (callers x.number) x.passes in
     record { gone = none-told (rows q) (∥∥₁_map t (λ y. y.gone)); thread = x.number; caller = c.value; calls = c.there; number = c.rest }
 
-reply-told : (rows : Reads (ReqState × Call)) (callers : Reads Caller) (m : Msg) → Told (ReplyIsAwaited rows callers m)
+reply-told : (rows : Reads (ReqState × CallRequest)) (callers : Reads Caller) (m : Msg) → Told (ReplyIsAwaited rows callers m)
 reply-told rows callers (Reply q code) t = awaited-told rows callers q.0 t
 reply-told rows callers _ t = tt
 
-call-told : (rows : Reads (ReqState × Call)) (next k q : ℕ) (bs : List Msg) → Told (CallHolds rows next k q bs)
+call-told : (rows : Reads (ReqState × CallRequest)) (next k q : ℕ) (bs : List Msg) → Told (CallHolds rows next k q bs)
 call-told rows next k q bs t = record {
   given = lt-told (∥∥₁_map t (λ x. x.given));
   named = λ e. nat-told (∥∥₁_map t (λ x. x.named e));
   replied = λ e. nat-told (∥∥₁_map t (λ x. x.replied e));
 }
 
-pub answered-told : (rows : Reads (ReqState × Call)) (callers : Reads Caller) (next : ℕ) (bs : List Msg) → Told (Answered rows callers next bs)
+pub answered-told : (rows : Reads (ReqState × CallRequest)) (callers : Reads Caller) (next : ℕ) (bs : List Msg) → Told (Answered rows callers next bs)
 answered-told rows callers next bs t = record {
   awaited = each-told (reply-told rows callers) bs (∥∥₁_map t (λ x. x.awaited));
   calls = λ k c e. call-told rows next k c.request bs (∥∥₁_map t (λ x. x.calls k c e));

@@ -88,7 +88,7 @@ turn-told : (pair : Pair) (e : ℕ) (x : Turn) → Told (TurnHolds pair e x)
 turn-told pair e x t = record { waits = bool-told (∥∥₁_map t (λ y. y.waits)); own = maybe-told (∥∥₁_map t (λ y. y.own)) }
 
 under-way-told : (p : Progress) → Told (IsUnderWay p)
-under-way-told p t = record { delegated = bool-told (∥∥₁_map t (λ x. x.delegated)); phases = le-told (∥∥₁_map t (λ x. x.phases)); acts = le-told (∥∥₁_map t (λ x. x.acts)) }
+under-way-told p t = record { phases = le-told (∥∥₁_map t (λ x. x.phases)); acts = le-told (∥∥₁_map t (λ x. x.acts)) }
 
 status-told : (c : CallStatus) → Told (StatusHolds c)
 status-told (Active p) t = under-way-told p t

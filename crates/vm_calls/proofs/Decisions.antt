@@ -1,7 +1,8 @@
 -- What is decided from the facts is what is decided from the process and its memory.
 use Rattle.file_model.specs.Errno.{ENOMEM}
 use Rattle.isa_model.specs.Memory.{Memory, Page}
-use Rattle.kernel_model.specs.MemoryCalls.{Decision, Now, decide, highest_gap, lessens, present_in, rights_of_prot}
+use Rattle.kernel_model.specs.CallPhases.{argument}
+use Rattle.kernel_model.specs.MemoryCalls.{Decision, Now, decide, highest_gap, is_aligned, is_fixed, is_inside, lessens, low_word, present_in, range_for, refuse, rights_of_prot}
 use Rattle.kernel_model.specs.Nodes.{Process}
 use Rattle.kernel_model.specs.Pages.{page_end, range}
 use Rattle.kernel_model.specs.declared.Change.TheVariants.{Map as ChangeMap}
@@ -13,7 +14,9 @@ use Rattle.std.proofs.Common.{ap, arith, refl, ◌∙◌}
 use Rattle.std.proofs.lemmas.Bool.Decides.{nat_tests}
 use Rattle.std.specs.Prelude.{Bool, List, None, Option, Some, cond, false, length, nat_le, nat_lt, not, option_map, true, ℕ, ◌%◌, ◌&&◌, ◌+◌, ◌-◌, ◌==◌, ◌≡◌, ◌||◌}
 use Rattle.vm_calls.specs.Facts.{Describes}
-use Rattle.vm_calls.specs.Plans.{argument, bad_brk, bad_mmap, brk_by, call_range, decided, heap_range, brk_down, brk_up, in_gap, is_aligned, is_fixed, is_inside, looks_for_gap, low_word, mmap_by, mmap_fixed, mprotect_by, munmap_by, range_for, refuse}
+use Rattle.system_calls.specs.declared.MemoryCall.{MemoryCall}
+use Rattle.system_calls.specs.declared.MemoryCall.TheVariants as calls
+use Rattle.vm_calls.specs.Deciding.{bad_brk, bad_mmap, brk_by, brk_down, brk_up, decided, heap_range, in_gap, mmap_by, mmap_fixed, mprotect_by, munmap_by}
 use Rattle.vm_calls.specs.declared.Facts.{Facts}
 
 -- two choices by one test
@@ -44,7 +47,7 @@ module _ (f : Facts) (p : Process) (m : Memory) (arguments : List ℕ) where
   mmap-decides : f.present ≡ length (present_in m (range_for (argument arguments 0) (argument arguments 1)))
       → ((argument arguments 1 == 0) ≡ false → is_fixed (low_word (argument arguments 3)) ≡ false → nat_le (page_end (argument arguments 1)) f.free ≡ true
       → option_map (λ low. low + page_end (argument arguments 1)) f.gap ≡ highest_gap m (page_end (argument arguments 1)))
-      → mmap_by f (argument arguments 0) (argument arguments 1) (low_word (argument arguments 2)) (low_word (argument arguments 3)) ≡ decide p m f.free 222 arguments
+      → mmap_by f (argument arguments 0) (argument arguments 1) (low_word (argument arguments 2)) (low_word (argument arguments 3)) ≡ decide p m f.free calls.Mmap arguments
   mmap-decides present gap =
       same-choice (bad_mmap (argument arguments 0) (argument arguments 1) (low_word (argument arguments 2)) (low_word (argument arguments 3))) _ _ _ _ (λ v. refl) (λ v. same-choice (is_fixed (low_word (argument arguments 3))) _ _ _ _
       (λ x. ap (λ n. mmap_fixed (record f { present = n }) (range_for (argument arguments 0) (argument arguments 1)) (rights_of_prot (low_word (argument arguments 2)))) present)
@@ -55,16 +58,16 @@ module _ (f : Facts) (p : Process) (m : Memory) (arguments : List ℕ) where
       enough : (a b : ℕ) → nat_lt a b ≡ false → nat_le b a ≡ true
       enough a b e = grind (arith, nat_tests, e)
 
-  munmap-decides : f.present ≡ length (present_in m (range_for (argument arguments 0) (argument arguments 1))) → munmap_by f (argument arguments 0) (argument arguments 1) ≡ decide p m f.free 215 arguments
+  munmap-decides : f.present ≡ length (present_in m (range_for (argument arguments 0) (argument arguments 1))) → munmap_by f (argument arguments 0) (argument arguments 1) ≡ decide p m f.free calls.Munmap arguments
   munmap-decides present = ap (λ n. munmap_by (record f { present = n }) (argument arguments 0) (argument arguments 1)) present
 
   mprotect-decides : f.present ≡ length (present_in m (range_for (argument arguments 0) (argument arguments 1)))
       → f.lessens ≡ some_row (λ page (x : Page). in_range (range_for (argument arguments 0) (argument arguments 1)) page && lessens x.rights (rights_of_prot (low_word (argument arguments 2)))) m
-      → mprotect_by f (argument arguments 0) (argument arguments 1) (low_word (argument arguments 2)) ≡ decide p m f.free 226 arguments
+      → mprotect_by f (argument arguments 0) (argument arguments 1) (low_word (argument arguments 2)) ≡ decide p m f.free calls.Mprotect arguments
   mprotect-decides present lessened = λ j. mprotect_by (record f { present = present j; lessens = lessened j }) (argument arguments 0) (argument arguments 1) (low_word (argument arguments 2))
 
   brk-decides : f.brk ≡ p.program_break → f.base ≡ p.heap_base → f.present ≡ length (present_in m (heap_range f.brk (argument arguments 0)))
-      → brk_by f (argument arguments 0) ≡ decide p m f.free 214 arguments
+      → brk_by f (argument arguments 0) ≡ decide p m f.free calls.Brk arguments
   brk-decides now base present =
       (λ j. brk_by (record f { brk = now j; base = base j }) (argument arguments 0))
       ∙ same-choice (bad_brk p.heap_base (argument arguments 0)) _ _ _ _ (λ v. refl) (λ v. same-choice (nat_lt (argument arguments 0) p.program_break) _ _ _ _
@@ -76,33 +79,9 @@ module _ (f : Facts) (p : Process) (m : Memory) (arguments : List ℕ) where
       counted b e = present ∙ (ap (λ x. length (present_in m (heap_range x (argument arguments 0)))) now
           ∙ ap (λ t. length (present_in m (cond t (range (page_end (argument arguments 0)) (page_end p.program_break)) (range (page_end p.program_break) (page_end (argument arguments 0)))))) e)
 
-pub decides : (f : Facts) (number : ℕ) (arguments : List ℕ) (p : Process) (m : Memory) → Describes f number arguments p m
-    → decided f number arguments ≡ decide p m f.free number arguments
-decides f number arguments p m d =
-    same-choice (number == 222) _ _ _ _ (λ e. mmap-decides f p m arguments (d.present ∙ pages (by_first _ (number == 226) e)) (λ some unfixed enough. d.gap (looks e some unfixed enough)))
-    (λ e. same-choice (number == 215) _ _ _ _ (λ h. munmap-decides f p m arguments (d.present ∙ pages (by_second (number == 222) _ h)))
-    (λ h. same-choice (number == 226) _ _ _ _
-    (λ i. mprotect-decides f p m arguments (d.present ∙ pages (by_third (number == 222) (number == 215) i))
-    (d.lessened i ∙ ap (λ b. some_row (λ page (x : Page). in_range (cond b (range_for (argument arguments 0) (argument arguments 1)) (heap_range f.brk (argument arguments 0))) page && lessens x.rights (rights_of_prot (low_word (argument arguments 2)))) m) (by_third (number == 222) (number == 215) i)))
-    (λ i. brk-decides f p m arguments d.program_break d.base (d.present ∙ pages (by_none e h i)))))
-  where
-    pages : {b : Bool} → (number == 222 || number == 215 || number == 226) ≡ b → length (present_in m (call_range f.brk number arguments)) ≡ length (present_in m (cond b (range_for (argument arguments 0) (argument arguments 1)) (heap_range f.brk (argument arguments 0))))
-    pages e = ap (λ t. length (present_in m (cond t (range_for (argument arguments 0) (argument arguments 1)) (heap_range f.brk (argument arguments 0))))) e
-
-    by_first : (x y : Bool) {b : Bool} → b ≡ true → (b || x || y) ≡ true
-    by_first x y e = rw e refl
-
-    by_second : (x y : Bool) {b : Bool} → b ≡ true → (x || b || y) ≡ true
-    by_second true y e = refl
-    by_second false y e = rw e refl
-
-    by_third : (x y : Bool) {b : Bool} → b ≡ true → (x || y || b) ≡ true
-    by_third true y e = refl
-    by_third false true e = refl
-    by_third false false e = e
-
-    by_none : {a b c : Bool} → a ≡ false → b ≡ false → c ≡ false → (a || b || c) ≡ false
-    by_none e h i = rw (e, h) i
-
-    looks : (number == 222) ≡ true → (argument arguments 1 == 0) ≡ false → is_fixed (low_word (argument arguments 3)) ≡ false → nat_le (page_end (argument arguments 1)) f.free ≡ true → looks_for_gap f.free number arguments ≡ true
-    looks e some unfixed enough = rw (e, some, unfixed) enough
+pub decides : (f : Facts) (call : MemoryCall) (arguments : List ℕ) (p : Process) (m : Memory) → Describes f call arguments p m
+    → decided f call arguments ≡ decide p m f.free call arguments
+decides f calls.Mmap arguments p m d = mmap-decides f p m arguments d.present (λ some unfixed enough. d.gap (rw (some, unfixed) enough))
+decides f calls.Munmap arguments p m d = munmap-decides f p m arguments d.present
+decides f calls.Mprotect arguments p m d = mprotect-decides f p m arguments d.present (d.lessened refl)
+decides f calls.Brk arguments p m d = brk-decides f p m arguments d.program_break d.base d.present

@@ -1,8 +1,8 @@
 // The arguments of the memory calls.
-ghost use Rattle.kernel_model.specs.MemoryCalls.{rights_of_prot};
+ghost use Rattle.kernel_model.specs.MemoryCalls.{is_inside, range_for, rights_of_prot};
 ghost use Rattle.kernel_model.specs.Pages.{page_end};
 ghost use Rattle.std.specs.Prelude.{◌≡◌, ◌≤◌};
-ghost use Rattle.vm_calls.specs.Plans.{heap_range, is_inside, range_for};
+ghost use Rattle.vm_calls.specs.Deciding.{heap_range};
 
 use mck_flags::Rights;
 use mck_word::PageRange;

@@ -1,7 +1,7 @@
--- Delegated calls: their plans, and what each of their steps leaves.
+-- Delegated calls: how they begin, and what each of their steps leaves.
 pub mod Acts
 pub mod ActsAdd
-pub mod Plans
+pub mod Begins
 pub mod Steps
 pub mod FileStep
 pub mod Settling

@@ -6,13 +6,15 @@ use Rattle.hybrid_model.specs.Tallies.{as_number, tally}
 use Rattle.kernel_model.specs.Nodes.{Node, Process, Thread, has_ended}
 use Rattle.kernel_model.specs.OneKernel.{Active, Blocked, Call, CallStatus, OneKernel, Over, Own}
 use Rattle.kernel_model.specs.Pages.{page_size}
-use Rattle.kernel_model.specs.Plans.{Act, Gather, Phase, Scatter, Stream, has_path, has_vectors, vector_count}
+use Rattle.kernel_model.specs.CallPhases.{Act, Gather, Phase, Scatter, Stream, vector_count}
 use Rattle.kernel_model.specs.Progress.{Progress}
 use Rattle.kernel_model.specs.declared.Does.TheVariants.{Asleep, Called, InVm, InWait, Ready, Stopped}
 use Rattle.kernel_model.specs.declared.Does.{Does}
 use Rattle.kernel_model.specs.declared.ranges.Range.{Range}
 use Rattle.mck_word.specs.Maps.{entries, total}
 use Rattle.std.specs.Prelude.{Bool, List, [], cond, false, length, nat_lt, not, sum_by, true, ℕ, ◌%◌, ◌&&◌, ◌*◌, ◌+◌, ◌-◌, ◌/◌, ◌∷◌}
+use Rattle.system_calls.specs.FileCalls.{has_path, has_vectors}
+use Rattle.system_calls.specs.declared.file_calls.FileCall.{FileCall}
 use Rattle.work_laws.specs.SignalCount.{signals}
 
 -- ---- a call
@@ -32,14 +34,14 @@ abbrev pub most_built : ℕ
 most_built = 18
 
 -- A piece of a stream counts twice, since it may make room for one that is cut. The last piece of vectors is followed by their stream.
-abbrev pub phase_left : ℕ → Phase → ℕ
-phase_left number (Gather ranges) = 1 + pieces ranges + cond (has_path number) 0 (2 * most_pieces)
-phase_left number Act = 2 + most_built
-phase_left number (Scatter ranges) = 1 + pieces ranges
-phase_left number (Stream ranges) = 1 + 2 * pieces ranges
+abbrev pub phase_left : FileCall → Phase → ℕ
+phase_left call (Gather ranges) = 1 + pieces ranges + cond (has_path call) 0 (2 * most_pieces)
+phase_left call Act = 2 + most_built
+phase_left call (Scatter ranges) = 1 + pieces ranges
+phase_left call (Stream ranges) = 1 + 2 * pieces ranges
 
-abbrev pub phases_left : ℕ → List Phase → ℕ
-phases_left number phases = tally (phase_left number) phases
+abbrev pub phases_left : FileCall → List Phase → ℕ
+phases_left call phases = tally (phase_left call) phases
 
 abbrev pub begins_with_act : List Phase → Bool
 begins_with_act [] = false
@@ -48,10 +50,10 @@ begins_with_act (phase ∷ phases) = false
 
 -- a number of vectors that the act refuses
 abbrev pub is_refused : Progress → Bool
-is_refused p = has_vectors p.number && begins_with_act p.phases && not (count_is_valid (vector_count p.number p.arguments))
+is_refused p = has_vectors p.call && begins_with_act p.phases && not (count_is_valid (vector_count p.call p.arguments))
 
 abbrev pub progress_left : Progress → ℕ
-progress_left p = 1 + cond (is_refused p) 2 (phases_left p.number p.phases)
+progress_left p = 1 + cond (is_refused p) 2 (phases_left p.call p.phases)
 
 abbrev pub status_left : CallStatus → ℕ
 status_left (Active p) = progress_left p

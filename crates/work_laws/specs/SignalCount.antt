@@ -1,7 +1,7 @@
 -- How many signals a set has.
 use Rattle.guest_laws.specs.Counting.{sum_below}
 use Rattle.std.specs.Int.{bit_at}
-use Rattle.std.specs.Prelude.{ℕ, ◌-◌}
+use Rattle.std.specs.Prelude.{ℕ}
 
 -- the signals of a set, 1 to 64
 unfoldable pub signals : ℕ → ℕ

@@ -8,7 +8,7 @@ use Rattle.hybrid_model.specs.Copy.{is_uncopied}
 use Rattle.hybrid_model.specs.Pairs.{Pair}
 use Rattle.hybrid_model.specs.Sides.{LinuxSide, Noted, Round, Row, Service, Side, looked_up, service_of}
 use Rattle.hybrid_model.specs.Tallies.{Reads, sum_rings, tally}
-use Rattle.ikc_ring.specs.declared.Call.{Call}
+use Rattle.ikc_ring.specs.declared.CallRequest.{CallRequest}
 use Rattle.ikc_ring.specs.declared.Msg.{Msg}
 use Rattle.kernel_model.specs.Progress.{is_not_ready, is_ready, needed_access, next_kind, next_piece}
 use Rattle.mck_word.specs.Maps.{at, entries, total}
@@ -46,7 +46,7 @@ of_state files k pins mirror States.Parked = of_reply + cond (wakes files k) 14 
 of_state files k pins mirror States.Ended = of_reply
 of_state files k pins mirror States.Replied = of_reply
 
-abbrev pub of_request : Files → LinuxSide → ℕ × (ReqState × Call) → ℕ
+abbrev pub of_request : Files → LinuxSide → ℕ × (ReqState × CallRequest) → ℕ
 of_request files l e = of_state files (service_of l.services e.0) (at l.pins) (at l.mirror) e.1.0
 
 -- the requests of a process at most, one for each place of a thread

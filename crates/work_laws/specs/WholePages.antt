@@ -5,7 +5,7 @@ use Rattle.isa_model.specs.Memory.{Memory, Page}
 use Rattle.kernel_model.specs.OneKernel.{OneKernel, Own}
 use Rattle.kernel_model.specs.Pages.{page_size}
 use Rattle.mck_word.specs.Maps.{at}
-use Rattle.std.specs.Prelude.{None, Option, Some, length, ℕ, ◌≡◌, ◌-◌}
+use Rattle.std.specs.Prelude.{None, Option, Some, length, ℕ, ◌≡◌}
 
 abbrev pub IsFull : Option Page → Type 0
 IsFull None = Unit {0}

@@ -2,7 +2,6 @@
 use Rattle.hybrid_model.specs.declared.events.Event.TheVariants as Events
 use Rattle.hybrid_laws.proofs.maps.Reading.{EachRing-post, reads-cut, sum-post}
 use Rattle.hybrid_laws.proofs.maps.Tests.{both, not-true}
-use Rattle.hybrid_laws.proofs.node.Primitives.{then}
 use Rattle.hybrid_laws.proofs.rings.Placing.{Marked-post, Messages-post}
 use Rattle.hybrid_model.specs.Coherence.{AnswerCovered, AnswerIsFor, ClearIsOf, Covered, InterruptIs, IsForNext, IsOutside, NotAhead, OfProcess, RequestIs, Rounded, Served, answers_to, asks, clears, goes_to_linux}
 use Rattle.hybrid_model.specs.Events.{after_here, may_here}
@@ -11,7 +10,7 @@ use Rattle.hybrid_model.specs.Pairs.{Here, ring_of}
 use Rattle.hybrid_model.specs.Rings.{post}
 use Rattle.hybrid_model.specs.Sides.{Noted, Round, Row, Service, Side, closes, looked_up}
 use Rattle.hybrid_model.specs.Tallies.{Reads, with_at}
-use Rattle.ikc_ring.specs.declared.Call.{Call}
+use Rattle.ikc_ring.specs.declared.CallRequest.{CallRequest}
 use Rattle.ikc_ring.specs.declared.Msg.TheVariants.{Answer}
 use Rattle.ikc_ring.specs.declared.Msg.{Msg}
 use Rattle.isa_model.specs.Memory.{allows}
@@ -65,7 +64,7 @@ module _ (table mirror : Reads Row) (pins : Reads Pin) (begun cleared : ℕ) (ro
     pins_outside = d.pins_outside;
   }
 
-module _ (worker_count : ℕ) (workers : Reads ℕ) (rows : Reads (ReqState × Call)) (services : Reads Service) (pins : Reads Pin) (waiting : List ℕ) (noted : Reads Noted) (rings : List (List Msg)) (bs : List Msg) (s : Served worker_count workers rows services pins waiting noted rings bs) (w : ℕ) (n : Noted) (there : noted w ≡ Some n)
+module _ (worker_count : ℕ) (workers : Reads ℕ) (rows : Reads (ReqState × CallRequest)) (services : Reads Service) (pins : Reads Pin) (waiting : List ℕ) (noted : Reads Noted) (rings : List (List Msg)) (bs : List Msg) (s : Served worker_count workers rows services pins waiting noted rings bs) (w : ℕ) (n : Noted) (there : noted w ≡ Some n)
     (r number : ℕ) (o : Option Row) (right : (x : Row) → o ≡ Some x → allows n.1 x.1 ≡ true) where
   pub served_answer : Served worker_count workers rows services pins waiting (with_at noted w None) (post r (Answer w n.0 number o) rings) bs
   served_answer = record {

@@ -4,7 +4,6 @@ use Rattle.kernel_model.specs.declared.steps.Step.TheVariants as Steps
 use Rattle.hybrid_model.specs.declared.events.Event.TheVariants as Events
 use Rattle.hybrid_laws.proofs.answer.Answer.{MayAnswer, may_be_answered}
 use Rattle.hybrid_laws.proofs.intake.Fault.{at-most}
-use Rattle.hybrid_laws.proofs.node.Primitives.{then}
 use Rattle.hybrid_laws.proofs.requests.Showing.{has_empty-post, no_empty, shown-same}
 use Rattle.hybrid_laws.proofs.requests.Speaking.{calls-after, shown-call-at, the-caller, thread-served-is}
 use Rattle.hybrid_laws.proofs.states.Simulated.{simulated-none, simulated-one}
@@ -20,7 +19,7 @@ use Rattle.hybrid_model.specs.Shown.{any_empty, has_empty, is_empty_for, reply_c
 use Rattle.hybrid_model.specs.Sides.{Row, Side, call_in, looked_up, no_service, served, service_of, state_in}
 use Rattle.hybrid_model.specs.Spaces.{shown_memory, shown_row}
 use Rattle.hybrid_model.specs.Tallies.{Reads, sum_rings, tally}
-use Rattle.ikc_ring.specs.declared.Call.{Call}
+use Rattle.ikc_ring.specs.declared.CallRequest.{CallRequest}
 use Rattle.ikc_ring.specs.declared.Msg.TheVariants.{Answer}
 use Rattle.ikc_ring.specs.declared.Msg.{Msg}
 use Rattle.isa_model.specs.Memory.{allows, allows_in}
@@ -57,7 +56,7 @@ has_empty-posted workers q (suc r) m (ms ∷ rs) e = go (any_empty workers q ms)
     go true k = refl
     go false k = k
 
-faulted-only : (o : Option (ReqState × Call)) → is_faulted (state_in o) ≡ 1 → (call : Call) × (o ≡ Some (Faulted, call))
+faulted-only : (o : Option (ReqState × CallRequest)) → is_faulted (state_in o) ≡ 1 → (call : CallRequest) × (o ≡ Some (Faulted, call))
 faulted-only None e = absurd (omega (arith, e))
 faulted-only (Some r) e = (r.1, (let k = only r.0 e in λ i. Some (k i, r.1)))
   where
@@ -127,7 +126,7 @@ module _ (p : ℕ) (q : Pid) (w : ℕ) (h : Here) (m : may_here (Events.Answer q
         one : (x : ℕ) → tally (faults_of w) h.side.to_lwk + 1 + sum_rings (answers_to w) h.side.to_linux ≡ x → x ≤ 1 → x ≡ 1
         one x e l = omega (arith, e, l)
 
-    pub faulted : (call : Call) × (at h.side.book.rows number ≡ Some (Faulted, call))
+    pub faulted : (call : CallRequest) × (at h.side.book.rows number ≡ Some (Faulted, call))
     faulted = faulted-only (at h.side.book.rows number) faulting-one
 
     no-answers : sum_rings (answers_to w) h.side.to_linux ≡ 0
@@ -190,7 +189,7 @@ module _ (p : ℕ) (q : Pid) (w : ℕ) (h : Here) (m : may_here (Events.Answer q
     status-own =
         let same : (number == number) ≡ true = grind (arith, nat_tests) in
         let e = has_empty-posted (at h.side.linux.workers) number r (Answer w (noted_of h.side w).0 h.side.lwk.begun (answer_to h.side w)) h.side.to_linux (empty-for number ∙ same) in
-        ap (λ (o : Option (ReqState × Call)). status_in (state_in o) (call_in o) (service_of h.side.linux.services number) (has_empty (at h.side.linux.workers) number side'.to_linux) (reply_code number h.side.to_lwk)) faulted.1
+        ap (λ (o : Option (ReqState × CallRequest)). status_in (state_in o) (call_in o) (service_of h.side.linux.services number) (has_empty (at h.side.linux.workers) number side'.to_linux) (reply_code number h.side.to_lwk)) faulted.1
         ∙ ap (λ b. ended_if b progress) e
 
     pub status-other : (x : ℕ) → (x == number) ≡ false → status_of side' x ≡ status_of h.side x

@@ -25,7 +25,7 @@ use Rattle.hybrid_model.specs.Answer.{answer_to, files_after_answer, noted_of, p
 use Rattle.hybrid_model.specs.Pairs.{Here, Pair, here, ring_of, side_of}
 use Rattle.hybrid_model.specs.Shown.{status_of}
 use Rattle.hybrid_model.specs.Sides.{Row, Side, Turn, served, service_of, state_in, state_of}
-use Rattle.ikc_ring.specs.declared.Call.{Call}
+use Rattle.ikc_ring.specs.declared.CallRequest.{CallRequest}
 use Rattle.ikc_ring.specs.declared.Msg.TheVariants.{Answer}
 use Rattle.kernel_model.specs.Nodes.{Thread, is_there, no_thread, thread_of}
 use Rattle.kernel_model.specs.OneKernel.{Active, Over}
@@ -57,7 +57,7 @@ module _ (pair : Pair) (c : Coherent pair) (q : Pid) (w : ℕ) (e : may pair (Ev
   abbrev n : ℕ
   n = shown.number p q w h allowed pair.workers (ring_number pair) (c.whole p) none
 
-  abbrev call : Call
+  abbrev call : CallRequest
   call = (shown.faulted p q w h allowed pair.workers (ring_number pair) (c.whole p) none).0
 
   is : at h.side.book.rows n ≡ Some (Faulted, call)
@@ -95,7 +95,7 @@ module _ (pair : Pair) (c : Coherent pair) (q : Pid) (w : ℕ) (e : may pair (Ev
           let y : t.process ≡ p = grind (arith, nat_tests, a.0) in
           let z : t.request ≡ n = grind (arith, nat_tests, a.1) in
           let u : waits_or_held (state_of (side_of pair p).book n) ≡ true = ap (λ (j : ℕ). waits_or_held (state_of (side_of pair p).book j)) (sym z) ∙ ap (λ (j : ℕ). waits_or_held (state_of (side_of pair j).book t.request)) (sym y) ∙ (c.turns x t i).waits in
-          let v : waits_or_held (state_of (side_of pair p).book n) ≡ false = ap (λ (o : Option (ReqState × Call)). waits_or_held (state_in o)) is in
+          let v : waits_or_held (state_of (side_of pair p).book n) ≡ false = ap (λ (o : Option (ReqState × CallRequest)). waits_or_held (state_in o)) is in
           grind (arith, u, v))
 
   turns : TurnsHold (pair_after pair c p there side files pair.frames pair.turns)

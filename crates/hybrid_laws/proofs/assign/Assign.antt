@@ -14,7 +14,7 @@ use Rattle.hybrid_model.specs.Pairs.{Here}
 use Rattle.hybrid_model.specs.Shown.{has_empty, reply_code, serves_it, shown_own, status_by, status_in, shown_born, shown_here}
 use Rattle.hybrid_model.specs.Sides.{Noted, Service, Side, service_of, call_in, no_service, state_in, with_state, LinuxSide}
 use Rattle.hybrid_model.specs.Tallies.{Reads, with_at, tally, if_same}
-use Rattle.ikc_ring.specs.declared.Call.{Call}
+use Rattle.ikc_ring.specs.declared.CallRequest.{CallRequest}
 use Rattle.ikc_ring.specs.declared.Msg.{Msg}
 use Rattle.kernel_model.specs.Nodes.{Node}
 use Rattle.mck_word.specs.Maps.{at, Map, put}
@@ -28,13 +28,13 @@ use Rattle.std.proofs.lemmas.Bool.Decides.{nat_tests}
 use Rattle.std.specs.Prelude.{List, None, Option, Some, ℕ, ◌∷◌, ◌≡◌, length, not, true, ◌==◌, Bool, false, if◌then◌else◌, unwrap_or, ◌<◌, is_none, nat_lt, ◌&&◌}
 
 -- a number that stands first among those that wait is a request that waits
-pub waiting-first : (rows : Reads (ReqState × Call)) (q : ℕ) (rest : List ℕ) → ((p : ℕ) → tally (if_same p) (q ∷ rest) ≡ is_waiting (state_at rows p)) → (call : Call) × (rows q ≡ Some (Waiting, call))
+pub waiting-first : (rows : Reads (ReqState × CallRequest)) (q : ℕ) (rest : List ℕ) → ((p : ℕ) → tally (if_same p) (q ∷ rest) ≡ is_waiting (state_at rows p)) → (call : CallRequest) × (rows q ≡ Some (Waiting, call))
 waiting-first rows q rest h = go (rows q) refl
   where
     waits : is_waiting (state_at rows q) ≡ 1
     waits = grind (arith, nat_tests, h q)
 
-    by_state : (s : ReqState) (c : Call) → rows q ≡ Some (s, c) → (call : Call) × (rows q ≡ Some (Waiting, call))
+    by_state : (s : ReqState) (c : CallRequest) → rows q ≡ Some (s, c) → (call : CallRequest) × (rows q ≡ Some (Waiting, call))
     by_state Waiting c e = (c, e)
     by_state Posted c e = absurd (let k = rw e at waits in grind (arith, k))
     by_state Held c e = absurd (let k = rw e at waits in grind (arith, k))
@@ -43,12 +43,12 @@ waiting-first rows q rest h = go (rows q) refl
     by_state Ended c e = absurd (let k = rw e at waits in grind (arith, k))
     by_state Replied c e = absurd (let k = rw e at waits in grind (arith, k))
 
-    go : (o : Option (ReqState × Call)) → rows q ≡ o → (call : Call) × (rows q ≡ Some (Waiting, call))
+    go : (o : Option (ReqState × CallRequest)) → rows q ≡ o → (call : CallRequest) × (rows q ≡ Some (Waiting, call))
     go None e = absurd (let k = rw e at waits in grind (arith, k))
     go (Some r) e = by_state r.0 r.1 e
 
-module _ (worker_count : ℕ) (workers : Reads ℕ) (rows : Reads (ReqState × Call)) (services : Reads Service) (pins : Reads Pin) (q w : ℕ) (below : w < worker_count) (rest : List ℕ) (noted : Reads Noted) (rings : List (List Msg)) (bs : List Msg) (c : Served worker_count workers rows services pins (q ∷ rest) noted rings bs) (idle : workers w ≡ None) (call : Call) (is : rows q ≡ Some (Waiting, call)) where
-  abbrev rows' : Reads (ReqState × Call)
+module _ (worker_count : ℕ) (workers : Reads ℕ) (rows : Reads (ReqState × CallRequest)) (services : Reads Service) (pins : Reads Pin) (q w : ℕ) (below : w < worker_count) (rest : List ℕ) (noted : Reads Noted) (rings : List (List Msg)) (bs : List Msg) (c : Served worker_count workers rows services pins (q ∷ rest) noted rings bs) (idle : workers w ≡ None) (call : CallRequest) (is : rows q ≡ Some (Waiting, call)) where
+  abbrev rows' : Reads (ReqState × CallRequest)
   rows' = with_at rows q (Some (Held, call))
 
   abbrev services' : Reads Service
@@ -98,7 +98,7 @@ module _ (p : ℕ) (side : Side) (node : Node) (worker_count : ℕ) (ring_of : �
   keeps_assigned e = let f = not-empty side.book.waiting e in with_first f.0 f.1 f.2
 
 -- ---- what is shown
-module _ (workers : Reads ℕ) (rows : Reads (ReqState × Call)) (services : Reads Service) (q w : ℕ) (call : Call) (is : rows q ≡ Some (Waiting, call)) (idle : workers w ≡ None) where
+module _ (workers : Reads ℕ) (rows : Reads (ReqState × CallRequest)) (services : Reads Service) (q w : ℕ) (call : CallRequest) (is : rows q ≡ Some (Waiting, call)) (idle : workers w ≡ None) where
   serves-same : (x : ℕ) → (x == q) ≡ false → (v : ℕ) → serves_it x (with_at workers w (Some q) v) ≡ serves_it x (workers v)
   serves-same x n v = grind (arith, nat_tests, n, idle)
 

@@ -14,7 +14,7 @@ use Rattle.hybrid_model.specs.Pairs.{Here, Pair, here}
 use Rattle.hybrid_model.specs.Sides.{Service, Side, service_of, state_in, state_of, stated}
 use Rattle.hybrid_model.specs.Spaces.{first_number}
 use Rattle.hybrid_model.specs.Tallies.{Reads, with_at}
-use Rattle.ikc_ring.specs.declared.Call.{Call}
+use Rattle.ikc_ring.specs.declared.CallRequest.{CallRequest}
 use Rattle.kernel_model.specs.Nodes.{is_there}
 use Rattle.kernel_model.specs.OneKernel.{OneHere}
 use Rattle.mck_word.specs.MapLaws.{at-put}
@@ -52,7 +52,7 @@ module _ (pair : Pair) (c : Coherent pair) (q : Pid) (w : ℕ) (e : may pair (Ev
       same-progress : (services : Reads Service) (n : ℕ) → (service_at (with_at services n (Some (record (service_at services n) { worker = w }))) x).progress ≡ (service_at services x).progress
       same-progress services n = grind (arith, nat_tests)
 
-      waits-after : (o : Option (ReqState × Call)) → at h.side.book.rows (first_number h.side.book.waiting) ≡ o → waits_or_held (state_in (at (stated Held o (first_number h.side.book.waiting) h.side.book.rows) x)) ≡ true
+      waits-after : (o : Option (ReqState × CallRequest)) → at h.side.book.rows (first_number h.side.book.waiting) ≡ o → waits_or_held (state_in (at (stated Held o (first_number h.side.book.waiting) h.side.book.rows) x)) ≡ true
       waits-after None f = u
       waits-after (Some r) f = ap (λ o. waits_or_held (state_in o)) (at-put h.side.book.rows (first_number h.side.book.waiting) (Held, r.1) x) ∙ go (x == first_number h.side.book.waiting)
         where

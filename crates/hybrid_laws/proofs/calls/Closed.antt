@@ -23,6 +23,8 @@ use Rattle.mck_word.specs.declared.End.{End}
 use Rattle.mck_word.specs.declared.Regs.{Regs}
 use Rattle.std.proofs.Common.{refl}
 use Rattle.std.specs.Prelude.{Bool, List, None, Option, Some, cond, false, filter, length, min, not, pos, slice_set, true, ℕ, ℤ, ◌%◌, ◌+◌, ◌-◌, ◌==◌, ◌^◌, ◌||◌, ◌≡◌}
+use Rattle.system_calls.specs.declared.LocalCall.TheVariants as Calls
+use Rattle.system_calls.specs.declared.LocalCall.{LocalCall}
 
 -- a thread is Ready, InVm or waits for a child
 abbrev pub is_plain : Does → Bool
@@ -300,31 +302,23 @@ module _ (t : ℕ) (R Q : Node → Node → Type 0) (k : Closed t R Q) where
       (either-view _ _ _ (answers-closed (pos 0) v) (does-closed v.node (InWait pid status) refl))))
 
   -- ---- all of them
-  pub calls-closed : (number : ℕ) (a : ℕ → ℕ) (v : View) → Q v.node (one_of_calls t number a v).node
-  calls-closed number a v =
-      final _ _ _ (l _ (exits-closed (exit_code (a 0)) v))
-      (final _ _ _ (l _ (exits_group-closed (exit_code (a 0)) v))
-      (final _ _ _ (l _ (sets_clear_address-closed (a 0) v))
-      (final _ _ _ (futex-closed (a 0) (a 1) (a 2) (a 3) v)
-      (final _ _ _ (l _ (sets_robust_list-closed (a 1) v))
-      (final _ _ _ (l _ (answers-closed (pos 0) v))
-      (final _ _ _ (l _ (kill-closed (int_argument (a 0)) (int_argument (a 1)) v))
-      (final _ _ _ (l _ (tgkill-closed (int_argument (a 0)) (int_argument (a 1)) (int_argument (a 2)) v))
-      (final _ _ _ (l _ (sigaction-closed (int_argument (a 0)) (a 1) (a 2) (a 3) v))
-      (final _ _ _ (l _ (sigprocmask-closed (int_argument (a 0)) (a 1) (a 2) (a 3) v))
-      (final _ _ _ (l _ (sigpending-closed (a 0) (a 1) v))
-      (final _ _ _ (l _ (return-closed v))
-      (final _ _ _ (l _ (answers-closed (pos (thread_of v.node t).process) v))
-      (final _ _ _ (l _ (answers-closed (pos (parent_number v.node (thread_of v.node t).process)) v))
-      (final _ _ _ (l _ (answers-closed (pos t) v))
-      (l _ (wait4-closed (int_argument (a 0)) (a 1) (a 2 % 2 ^ 32) (a 3) v))))))))))))))))
-    where
-      l : (b : Node) → R v.node b → Q v.node b
-      l b f = k.lift v.node b f
-
-      final : (b : Bool) (x y : View) → Q v.node x.node → Q v.node y.node → Q v.node (cond b x y).node
-      final true x y f g = f
-      final false x y f g = g
+  pub calls-closed : (call : LocalCall) (a : ℕ → ℕ) (v : View) → Q v.node (one_of_calls t call a v).node
+  calls-closed Calls.Exit a v = k.lift v.node _ (exits-closed (exit_code (a 0)) v)
+  calls-closed Calls.ExitGroup a v = k.lift v.node _ (exits_group-closed (exit_code (a 0)) v)
+  calls-closed Calls.SetTidAddress a v = k.lift v.node _ (sets_clear_address-closed (a 0) v)
+  calls-closed Calls.Futex a v = futex-closed (a 0) (a 1) (a 2) (a 3) v
+  calls-closed Calls.SetRobustList a v = k.lift v.node _ (sets_robust_list-closed (a 1) v)
+  calls-closed Calls.SchedYield a v = k.lift v.node _ (answers-closed (pos 0) v)
+  calls-closed Calls.Kill a v = k.lift v.node _ (kill-closed (int_argument (a 0)) (int_argument (a 1)) v)
+  calls-closed Calls.Tgkill a v = k.lift v.node _ (tgkill-closed (int_argument (a 0)) (int_argument (a 1)) (int_argument (a 2)) v)
+  calls-closed Calls.RtSigaction a v = k.lift v.node _ (sigaction-closed (int_argument (a 0)) (a 1) (a 2) (a 3) v)
+  calls-closed Calls.RtSigprocmask a v = k.lift v.node _ (sigprocmask-closed (int_argument (a 0)) (a 1) (a 2) (a 3) v)
+  calls-closed Calls.RtSigpending a v = k.lift v.node _ (sigpending-closed (a 0) (a 1) v)
+  calls-closed Calls.RtSigreturn a v = k.lift v.node _ (return-closed v)
+  calls-closed Calls.Getpid a v = k.lift v.node _ (answers-closed (pos (thread_of v.node t).process) v)
+  calls-closed Calls.Getppid a v = k.lift v.node _ (answers-closed (pos (parent_number v.node (thread_of v.node t).process)) v)
+  calls-closed Calls.Gettid a v = k.lift v.node _ (answers-closed (pos t) v)
+  calls-closed Calls.Wait4 a v = k.lift v.node _ (wait4-closed (int_argument (a 0)) (a 1) (a 2 % 2 ^ 32) (a 3) v)
 
   -- ---- deliveries
   after_reset-closed : (node : Node) (q signal : ℕ) (a : Action) → R node (after_reset q signal a node)

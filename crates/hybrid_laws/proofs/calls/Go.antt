@@ -30,7 +30,7 @@ use Rattle.hybrid_model.specs.Sides.{Book, Caller, Row, Service, Side, no_servic
 use Rattle.hybrid_model.specs.Spaces.{first_number, frame_bytes}
 use Rattle.hybrid_model.specs.Tallies.{Reads, as_number, if_same, sum_rings, tally, with_at}
 use Rattle.hybrid_model.specs.declared.events.Event.{Event}
-use Rattle.ikc_ring.specs.declared.Call.{Call}
+use Rattle.ikc_ring.specs.declared.CallRequest.{CallRequest}
 use Rattle.kernel_model.specs.Progress.{After, interrupted_answer, is_file_step, is_not_ready, is_ready, next_kind}
 use Rattle.mck_word.specs.MapLaws.{at-cut, at-put}
 use Rattle.mck_word.specs.Maps.{Map, at, cut, put}
@@ -67,7 +67,7 @@ callers-stay s z same f h t c e m = f c.request (h t c (ap (λ (y : Map Caller).
 pub stays : (s z : Side) → z.lwk.callers ≡ s.lwk.callers → z.book.rows ≡ s.book.rows → z.book.next ≡ s.book.next → ((x : ℕ) → sum_rings (interrupts_of x) s.to_linux ≤ sum_rings (interrupts_of x) z.to_linux)
     → ((x : ℕ) → (service_of z.linux.services x).interrupted ≡ (service_of s.linux.services x).interrupted) → CallsGo posts_none s z
 stays s z callers rows next more same = record {
-  told = callers-stay s z callers (λ x. told-by s z x (λ e. ap (λ (m : Map (ReqState × Call)). is_ended_or_replied (state_in (at m x))) (sym rows) ∙ e) (more x) (same x));
+  told = callers-stay s z callers (λ x. told-by s z x (λ e. ap (λ (m : Map (ReqState × CallRequest)). is_ended_or_replied (state_in (at m x))) (sym rows) ∙ e) (more x) (same x));
   gone_more = λ q. (let a : gone z q ≡ gone s q = (λ i. gone_in (at (rows i) q) q (next i)) in omega (arith, a));
 }
 
@@ -75,9 +75,9 @@ pub stays-same : (s : Side) → CallsGo posts_none s s
 stays-same s = stays s s refl refl refl (λ x. omega arith) (λ x. refl)
 
 -- ---- a request gets another state
-module _ (s : Side) (n : ℕ) (was now : ReqState) (call : Call) (is : at s.book.rows n ≡ Some (was, call)) (opens : (is_ended_or_replied was ≡ false) ⊎ (is_ended_or_replied now ≡ true)) where
+module _ (s : Side) (n : ℕ) (was now : ReqState) (call : CallRequest) (is : at s.book.rows n ≡ Some (was, call)) (opens : (is_ended_or_replied was ≡ false) ⊎ (is_ended_or_replied now ≡ true)) where
   now-at : (x : ℕ) → at (stated now (at s.book.rows n) n s.book.rows) x ≡ with_at (at s.book.rows) n (Some (now, call)) x
-  now-at x = ap (λ (f : Reads (ReqState × Call)). f x) (reads-stated now n s.book.rows call was is)
+  now-at x = ap (λ (f : Reads (ReqState × CallRequest)). f x) (reads-stated now n s.book.rows call was is)
 
   still-open : (x : ℕ) → is_ended_or_replied (state_in (at (stated now (at s.book.rows n) n s.book.rows) x)) ≡ false → is_ended_or_replied (state_in (at s.book.rows x)) ≡ false
   still-open x e = go (x == n) refl (sym (ap (λ o. is_ended_or_replied (state_in o)) (now-at x)) ∙ e)
@@ -100,12 +100,12 @@ module _ (s : Side) (n : ℕ) (was now : ReqState) (call : Call) (is : at s.book
   pub restated : (z : Side) → z.lwk.callers ≡ s.lwk.callers → z.book.rows ≡ stated now (at s.book.rows n) n s.book.rows → z.book.next ≡ s.book.next → ((x : ℕ) → sum_rings (interrupts_of x) s.to_linux ≤ sum_rings (interrupts_of x) z.to_linux)
       → ((x : ℕ) → (service_of z.linux.services x).interrupted ≡ (service_of s.linux.services x).interrupted) → CallsGo posts_none s z
   restated z callers rows next more same = record {
-    told = callers-stay s z callers (λ x. told-by s z x (λ e. still-open x (ap (λ (m : Map (ReqState × Call)). is_ended_or_replied (state_in (at m x))) (sym rows) ∙ e)) (more x) (same x));
+    told = callers-stay s z callers (λ x. told-by s z x (λ e. still-open x (ap (λ (m : Map (ReqState × CallRequest)). is_ended_or_replied (state_in (at m x))) (sym rows) ∙ e)) (more x) (same x));
     gone_more = λ q. (let a : gone z q ≡ gone s q = (λ i. as_number (nat_lt q (next i) && is_none (at (rows i) q))) ∙ ap (λ b. as_number (nat_lt q s.book.next && b)) (same-gone q) in omega (arith, a));
   }
 
 -- ---- a request leaves the book
-module _ (s : Side) (n : ℕ) (r : ReqState × Call) (is : at s.book.rows n ≡ Some r) (fresh : (x : ℕ) → s.book.next ≤ x → at s.book.rows x ≡ None) where
+module _ (s : Side) (n : ℕ) (r : ReqState × CallRequest) (is : at s.book.rows n ≡ Some r) (fresh : (x : ℕ) → s.book.next ≤ x → at s.book.rows x ≡ None) where
   below : n < s.book.next
   below = go (cases_lt n s.book.next)
     where
@@ -117,7 +117,7 @@ module _ (s : Side) (n : ℕ) (r : ReqState × Call) (is : at s.book.rows n ≡ 
   leaves z callers rows next rings services = record { told = callers-stay s z callers told-left; gone_more = gone-left }
     where
       at-now : (x : ℕ) → at z.book.rows x ≡ cond (x == n) None (at s.book.rows x)
-      at-now x = ap (λ (m : Map (ReqState × Call)). at m x) rows ∙ at-cut s.book.rows n x
+      at-now x = ap (λ (m : Map (ReqState × CallRequest)). at m x) rows ∙ at-cut s.book.rows n x
 
       told-left : (x : ℕ) → IsTold s x → IsTold z x
       told-left x h e = go (x == n) refl

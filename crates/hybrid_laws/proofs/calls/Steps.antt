@@ -1,5 +1,5 @@
 -- What a step of a delegated call does to the description that the call holds: it goes on to hold it, takes it at its one act, or gives it back where the call ends. And a call that goes on is sound after it.
-use Rattle.kernel_model.specs.Plans as Phases
+use Rattle.kernel_model.specs.CallPhases as Phases
 use Rattle.kernel_model.specs.Progress as Steps
 use Rattle.file_model.specs.Files.{Files}
 use Rattle.file_model.specs.Operations.{FileResult}
@@ -9,10 +9,10 @@ use Rattle.hybrid_laws.proofs.files.Operations.{FindStep, FindsAt, PlainStep, ca
 use Rattle.hybrid_laws.specs.CallSteps.{Carries, FoundHeld, StepCarries, calls_at}
 use Rattle.hybrid_model.specs.Globals.{IsUnderWay, acts_left, description_held}
 use Rattle.hybrid_model.specs.Tallies.{counted}
-use Rattle.kernel_model.specs.Plans.{Gather, Scatter, Stream, act_of, delegated_calls}
+use Rattle.kernel_model.specs.CallPhases.{Gather, Scatter, Stream, act_of}
 use Rattle.kernel_model.specs.Progress.{After, Progress, answer_of, drop_used_up, ends, settle, settled_progress, with_scatter, without_empty, given_back, no_progress}
 use Rattle.kernel_model.specs.Steps.{status_after}
-use Rattle.mck_word.specs.Lists.{member, tail}
+use Rattle.mck_word.specs.Lists.{tail}
 use Rattle.std.proofs.Common.{ap, arith, refl, subst, sym}
 use Rattle.std.proofs.lemmas.Bool.Decides.{nat_tests}
 use Rattle.std.specs.Prelude.{Bool, List, None, Option, Some, [], cond, false, get_or, length, negsuc, pos, true, ℕ, ℤ, ◌+◌, ◌==◌, ◌∷◌, ◌≡◌, ◌≤◌}
@@ -69,15 +69,15 @@ counted-most None = omega arith
 counted-most (Some d) = omega arith
 
 -- ---- phases that are used up are passed over, and the call ends where none is left
-pub settles : (p : Progress) (files : Files) → member p.number delegated_calls ≡ true → acts_left p.phases + counted p.found ≤ 1 → FoundHeld files p.found → StepCarries p files (settle p files)
-settles p files d acts l = go (length (drop_used_up p.phases) == 0) refl
+pub settles : (p : Progress) (files : Files) → acts_left p.phases + counted p.found ≤ 1 → FoundHeld files p.found → StepCarries p files (settle p files)
+settles p files acts l = go (length (drop_used_up p.phases) == 0) refl
   where
     q : Progress
     q = settled_progress p
 
     go : (b : Bool) → (length (drop_used_up p.phases) == 0) ≡ b → StepCarries p files (cond b (ends (answer_of (settled_progress p)) (settled_progress p) files) (Steps.goes_on (settled_progress p) files))
     go true e = record { kept = gives-back files p.found l; goes = tt }
-    go false e = record { kept = carries-same p.found files.descriptions; goes = record { delegated = d; phases = grind (arith, nat_tests, e); acts = omega (arith, acts-dropped p.phases, acts) } }
+    go false e = record { kept = carries-same p.found files.descriptions; goes = record { phases = grind (arith, nat_tests, e); acts = omega (arith, acts-dropped p.phases, acts) } }
 
 module _ (p : Progress) (files : Files) (process : ℕ) (u : IsUnderWay p) (l : FoundHeld files p.found) where
   -- the step ends the call, or changes nothing that is held
@@ -102,7 +102,7 @@ module _ (p : Progress) (files : Files) (process : ℕ) (u : IsUnderWay p) (l : 
 
   -- ---- the act
   abbrev first_act : FileOp
-  first_act = act_of p.number p.arguments
+  first_act = act_of p.call p.arguments
 
   module _ (is : get_or p.phases 0 Phases.Act ≡ Phases.Act) (r : FileResult) where
     nothing-held : Carries p.found None files.descriptions r.files.descriptions → StepCarries p files (record { progress = p; ended = Some r.answer; files = r.files })
@@ -127,7 +127,7 @@ module _ (p : Progress) (files : Files) (process : ℕ) (u : IsUnderWay p) (l : 
             let f = (no-found is) in
             let a = f.1 in
             steps-then p q files r.files (settle q r.files) (subst (λ (o : Option ℕ). Carries o (Some n) files.descriptions r.files.descriptions) (sym f.0) c)
-            (settles q r.files u.delegated (omega (arith, a)) (λ d e. let g : n ≡ d = cc in let k = c.calls d in let b : (n == d) ≡ true = grind (arith, nat_tests, g) in let x : 1 ≤ calls_at r.files.descriptions d = omega (arith, rw b at k) in x))
+            (settles q r.files (omega (arith, a)) (λ d e. let g : n ≡ d = cc in let k = c.calls d in let b : (n == d) ≡ true = grind (arith, nat_tests, g) in let x : 1 ≤ calls_at r.files.descriptions d = omega (arith, rw b at k) in x))
 
     pub act-plain : PlainStep files r → StepCarries p files (elim r.answer [
       | negsuc n ↦ record { progress = p; ended = Some (negsuc n); files = r.files }
@@ -148,4 +148,4 @@ module _ (p : Progress) (files : Files) (process : ℕ) (u : IsUnderWay p) (l : 
             let a = f.1 in
             let b = ap (counted {A = ℕ}) f.0 in
             steps-then p q files r.files (settle q r.files) (carries-beside p.found files.descriptions r.files.descriptions s.kept)
-            (settles q r.files u.delegated (omega (arith, acts-scatter r.out (tail p.phases), a, b)) (λ d e. absurd (let g = f.0 in grind (arith, e, g))))
+            (settles q r.files (omega (arith, acts-scatter r.out (tail p.phases), a, b)) (λ d e. absurd (let g = f.0 in grind (arith, e, g))))

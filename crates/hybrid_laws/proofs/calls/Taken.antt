@@ -13,7 +13,7 @@ use Rattle.hybrid_model.specs.Pairs.{Here}
 use Rattle.hybrid_model.specs.Rings.{ring, with_ring}
 use Rattle.hybrid_model.specs.Sides.{Row, Service, Side, no_service, served, serves, service_of, state_in, state_of}
 use Rattle.hybrid_model.specs.Tallies.{as_number, if_same, sum_rings}
-use Rattle.ikc_ring.specs.declared.Call.{Call}
+use Rattle.ikc_ring.specs.declared.CallRequest.{CallRequest}
 use Rattle.ikc_ring.specs.declared.Msg.TheVariants.{Ack, Answer, Clear, Fault, Interrupt, Reply, Request}
 use Rattle.ikc_ring.specs.declared.Msg.{Msg}
 use Rattle.kernel_model.specs.Progress.{fault_answer}
@@ -40,14 +40,14 @@ module _ (p : ℕ) (h : Here) (worker_count : ℕ) (ring_number : ℕ → ℕ) (
     no-interrupt none x = let a = rings-less x in let b = none x in omega (arith, a, b)
 
   -- the service of a Posted request is not there yet
-  unserved : (q : ℕ) (c : Call) → at h.side.book.rows q ≡ Some (Posted, c) → false ≡ (service_of h.side.linux.services q).interrupted
+  unserved : (q : ℕ) (c : CallRequest) → at h.side.book.rows q ≡ Some (Posted, c) → false ≡ (service_of h.side.linux.services q).interrupted
   unserved q c e = go (at h.side.linux.services q) refl (sym (k.served.known q) ∙ ap (λ o. is_fetched (state_in o)) e)
     where
       go : (o : Option Service) → at h.side.linux.services q ≡ o → is_some (at h.side.linux.services q) ≡ false → false ≡ (service_of h.side.linux.services q).interrupted
       go None f u = sym (ap (λ (o : Option Service). (unwrap_or o no_service).interrupted) f)
       go (Some y) f u = absurd (let a = sym (ap is_some f) ∙ u in grind (arith, a))
 
-  take-request : (c : Call) → ring r h.side.to_linux ≡ Request c ∷ ms → CallsGo posts_none h.side (with_taken (fetch_request c h.side.linux h.side.book h.side.round))
+  take-request : (c : CallRequest) → ring r h.side.to_linux ≡ Request c ∷ ms → CallsGo posts_none h.side (with_taken (fetch_request c h.side.linux h.side.book h.side.round))
   unfolding fetch_request
   take-request c first =
       let is = first-of (RequestIs (at h.side.book.rows)) r (Request c) ms h.side.to_linux first k.asked in
@@ -59,7 +59,7 @@ module _ (p : ℕ) (h : Here) (worker_count : ℕ) (ring_number : ℕ → ℕ) (
   take-clear range first = stays h.side (with_taken (fetch_clear range h.side.linux h.side.book h.side.round)) refl refl refl (no-interrupt (Clear range) first (λ x. refl)) (λ x. refl)
 
   module _ (w page number : ℕ) (o : Option Row) (first : ring r h.side.to_linux ≡ Answer w page number o ∷ ms) where
-    served-is : (call : Call) × (at h.side.book.rows (serves h.side.linux w) ≡ Some (Faulted, call))
+    served-is : (call : CallRequest) × (at h.side.book.rows (serves h.side.linux w) ≡ Some (Faulted, call))
     served-is =
         let a = answered-for worker_count (at h.side.linux.workers) (at h.side.book.rows) (at h.side.linux.services) (at h.side.linux.pins) h.side.book.waiting (at h.side.lwk.noted) h.side.to_linux h.side.to_lwk k.served r w page number o ms first in
         (a.1, (ap (λ (x : Option ℕ). at h.side.book.rows (unwrap_or x 0)) a.2 ∙ a.3))

@@ -14,7 +14,7 @@ use Rattle.hybrid_model.specs.Pairs.{Here}
 use Rattle.hybrid_model.specs.Sides.{Side, Service, service_of, LinuxSide, pin_of}
 use Rattle.hybrid_model.specs.Spaces.{frame_bytes}
 use Rattle.hybrid_model.specs.Tallies.{Reads, with_at}
-use Rattle.ikc_ring.specs.declared.Call.{Call}
+use Rattle.ikc_ring.specs.declared.CallRequest.{CallRequest}
 use Rattle.kernel_model.specs.Nodes.{Node}
 use Rattle.kernel_model.specs.Progress.{After, is_ready, needed_access}
 use Rattle.mck_word.specs.Maps.{at, put}
@@ -30,7 +30,7 @@ module _ (p : ℕ) (side : Side) (node : Node) (worker_count : ℕ) (ring_of : �
   pub serving : PinServes (at side.linux.workers) (at side.book.rows) (at side.linux.services) w x
   serving = h.served.pins_serve w x there
 
-  pub held : (call : Call) × (at side.book.rows serving.number ≡ Some (Held, call))
+  pub held : (call : CallRequest) × (at side.book.rows serving.number ≡ Some (Held, call))
   held = held-row (at side.book.rows) serving.number (serving.held fresh)
 
   from-old : (b : Bool) (v : ℕ) (y : Pin) → (v == w) ≡ b → (if b then Some (record x { copied = true }) else at side.linux.pins v) ≡ Some y → Covers (at side.lwk.table) y.page (y.frame, y.rights)
@@ -59,7 +59,7 @@ module _ (p : ℕ) (side : Side) (node : Node) (worker_count : ℕ) (ring_of : �
       (rw (d, e) (served_step worker_count (at side.linux.workers) (at side.book.rows) (at side.linux.services) (at side.linux.pins) side.book.waiting (at side.lwk.noted) side.to_linux side.to_lwk h.served w q call serving.serves is (with_at (at side.linux.pins) w (Some (record x { copied = true })))
       (λ v n. grind (arith, nat_tests, n)) now k f.0 f.1 f.2 f.3 f.4 refl (own-pin q call now k f.2 serving.serves))))
     where
-      own-pin : (q : ℕ) (call : Call) (now : ReqState) (k : Service) → is_faulted now ≡ 0 → at side.linux.workers w ≡ Some q → (y : Pin) → with_at (at side.linux.pins) w (Some (record x { copied = true })) w ≡ Some y
+      own-pin : (q : ℕ) (call : CallRequest) (now : ReqState) (k : Service) → is_faulted now ≡ 0 → at side.linux.workers w ≡ Some q → (y : Pin) → with_at (at side.linux.pins) w (Some (record x { copied = true })) w ≡ Some y
           → PinServes (at side.linux.workers) (with_at (at side.book.rows) q (Some (now, call))) (with_at (at side.linux.services) q (Some k)) w y
       own-pin q call now k n s y e =
           let z : (w == w) ≡ true = grind (arith, nat_tests) in

@@ -19,7 +19,7 @@ use Rattle.hybrid_model.specs.Pairs.{Here}
 use Rattle.hybrid_model.specs.Shown.{has_empty, reply_code, shown_born, shown_call, shown_here}
 use Rattle.hybrid_model.specs.Sides.{Caller, Row, Service, Side, service_of, with_state}
 use Rattle.hybrid_model.specs.Spaces.{frame_bytes, shown_memory, shown_row}
-use Rattle.ikc_ring.specs.declared.Call.{Call}
+use Rattle.ikc_ring.specs.declared.CallRequest.{CallRequest}
 use Rattle.isa_model.specs.Memory.{allows}
 use Rattle.kernel_model.specs.OneKernel.{Active, OneHere}
 use Rattle.kernel_model.specs.Progress.{Moved, is_ready, move_piece, needed_access, next_kind, next_piece}
@@ -64,10 +64,10 @@ module _ (p : ℕ) (h : Here) (ring_number : ℕ → ℕ) (k : OfProcess p h.sid
   abbrev n : ℕ
   n = s.number
 
-  row-held : (call : Call) × (at h.side.book.rows n ≡ Some (Held, call))
+  row-held : (call : CallRequest) × (at h.side.book.rows n ≡ Some (Held, call))
   row-held = held-row (at h.side.book.rows) n (s.held m.fresh)
 
-  abbrev call : Call
+  abbrev call : CallRequest
   call = row-held.0
 
   abbrev before : Service

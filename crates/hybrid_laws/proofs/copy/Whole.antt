@@ -26,7 +26,7 @@ use Rattle.hybrid_model.specs.Pairs.{Here, Pair, here, put_here}
 use Rattle.hybrid_model.specs.Shown.{has_empty, reply_code, shown_call, shown_own, status_of}
 use Rattle.hybrid_model.specs.Sides.{Row, Service, Side, new_side, no_service, service_of, with_state, state_in}
 use Rattle.hybrid_model.specs.Spaces.{frame_bytes, shown_row}
-use Rattle.ikc_ring.specs.declared.Call.{Call}
+use Rattle.ikc_ring.specs.declared.CallRequest.{CallRequest}
 use Rattle.kernel_model.specs.Nodes.{Thread, is_there, no_thread, set_files, thread_of}
 use Rattle.kernel_model.specs.Pages.{zero_page}
 use Rattle.kernel_model.specs.Progress.{Moved, move_piece}
@@ -65,7 +65,7 @@ module _ (pair : Pair) (c : Coherent pair) (q : Pid) (w : ℕ) (e : may pair (Ev
   abbrev n : ℕ
   n = served-pin.number
 
-  row-is : (call : Call) × (at h.side.book.rows n ≡ Some (Held, call))
+  row-is : (call : CallRequest) × (at h.side.book.rows n ≡ Some (Held, call))
   row-is = held-row (at h.side.book.rows) n (served-pin.held copy_may.fresh)
 
   abbrev before : Service

@@ -6,7 +6,7 @@ use Rattle.hybrid_model.specs.Coherence.{Served, Covered, Rounded, Covers, IsFor
 use Rattle.hybrid_model.specs.Rings.{ring, with_ring}
 use Rattle.hybrid_model.specs.Sides.{Row, Round, Noted, Service, closes}
 use Rattle.hybrid_model.specs.Tallies.{Reads, with_at, sum_rings, if_same}
-use Rattle.ikc_ring.specs.declared.Call.{Call}
+use Rattle.ikc_ring.specs.declared.CallRequest.{CallRequest}
 use Rattle.ikc_ring.specs.declared.Msg.TheVariants.{Answer}
 use Rattle.ikc_ring.specs.declared.Msg.{Msg}
 use Rattle.kernel_model.specs.Pages.{range}
@@ -19,10 +19,10 @@ use Rattle.std.proofs.lemmas.Bool.Decides.{nat_tests}
 use Rattle.std.specs.Prelude.{Bool, List, None, Option, Some, false, if◌then◌else◌, is_some, true, ℕ, ◌+◌, ◌==◌, ◌∷◌, ◌≡◌, ◌≤◌}
 
 -- a request that is faulting stands in the book as Faulted
-pub faulted-row : (rows : Reads (ReqState × Call)) (q : ℕ) → is_faulted (state_at rows q) ≡ 1 → (call : Call) × (rows q ≡ Some (Faulted, call))
+pub faulted-row : (rows : Reads (ReqState × CallRequest)) (q : ℕ) → is_faulted (state_at rows q) ≡ 1 → (call : CallRequest) × (rows q ≡ Some (Faulted, call))
 faulted-row rows q f = go (rows q) refl
   where
-    by_state : (s : ReqState) (c : Call) → rows q ≡ Some (s, c) → (call : Call) × (rows q ≡ Some (Faulted, call))
+    by_state : (s : ReqState) (c : CallRequest) → rows q ≡ Some (s, c) → (call : CallRequest) × (rows q ≡ Some (Faulted, call))
     by_state Faulted c e = (c, e)
     by_state Posted c e = absurd (let k = rw e at f in grind (arith, k))
     by_state Waiting c e = absurd (let k = rw e at f in grind (arith, k))
@@ -31,22 +31,22 @@ faulted-row rows q f = go (rows q) refl
     by_state Ended c e = absurd (let k = rw e at f in grind (arith, k))
     by_state Replied c e = absurd (let k = rw e at f in grind (arith, k))
 
-    go : (o : Option (ReqState × Call)) → rows q ≡ o → (call : Call) × (rows q ≡ Some (Faulted, call))
+    go : (o : Option (ReqState × CallRequest)) → rows q ≡ o → (call : CallRequest) × (rows q ≡ Some (Faulted, call))
     go None e = absurd (let k = rw e at f in grind (arith, k))
     go (Some r) e = by_state r.0 r.1 e
 
 -- what an answer at the front of a ring tells of its worker
-module _ (worker_count : ℕ) (workers : Reads ℕ) (rows : Reads (ReqState × Call)) (services : Reads Service) (pins : Reads Pin) (waiting : List ℕ) (noted : Reads Noted) (rings : List (List Msg)) (bs : List Msg) (c : Served worker_count workers rows services pins waiting noted rings bs) (r w i n : ℕ) (o : Option Row) (ms : List Msg) (first : ring r rings ≡ Answer w i n o ∷ ms) where
+module _ (worker_count : ℕ) (workers : Reads ℕ) (rows : Reads (ReqState × CallRequest)) (services : Reads Service) (pins : Reads Pin) (waiting : List ℕ) (noted : Reads Noted) (rings : List (List Msg)) (bs : List Msg) (c : Served worker_count workers rows services pins waiting noted rings bs) (r w i n : ℕ) (o : Option Row) (ms : List Msg) (first : ring r rings ≡ Answer w i n o ∷ ms) where
   abbrev rings' : List (List Msg)
   rings' = with_ring r ms rings
 
-  pub answered-for : (q : ℕ) × (call : Call) × (workers w ≡ Some q) × (rows q ≡ Some (Faulted, call))
+  pub answered-for : (q : ℕ) × (call : CallRequest) × (workers w ≡ Some q) × (rows q ≡ Some (Faulted, call))
   answered-for = go (workers w) refl
     where
       t : sum_rings (answers_to w) rings ≡ if_same w w + sum_rings (answers_to w) rings'
       t = sum-take (answers_to w) r (Answer w i n o) ms rings first
 
-      go : (x : Option ℕ) → workers w ≡ x → (q : ℕ) × (call : Call) × (workers w ≡ Some q) × (rows q ≡ Some (Faulted, call))
+      go : (x : Option ℕ) → workers w ≡ x → (q : ℕ) × (call : CallRequest) × (workers w ≡ Some q) × (rows q ≡ Some (Faulted, call))
       go None e = absurd (grind (arith, nat_tests, t, c.faults w, e))
       go (Some q) e =
           let f : is_faulted (state_at rows q) ≡ 1 = at_most (is_faulted-most (state_at rows q)) (grind (arith, nat_tests, t, c.faults w, e)) in
@@ -64,10 +64,10 @@ module _ (worker_count : ℕ) (workers : Reads ℕ) (rows : Reads (ReqState × C
           is_faulted-most Ended = omega arith
           is_faulted-most Replied = omega arith
 
-  module _ (q : ℕ) (call : Call) (serving : workers w ≡ Some q) (is : rows q ≡ Some (Faulted, call)) (now : ReqState) (services' : Reads Service)
+  module _ (q : ℕ) (call : CallRequest) (serving : workers w ≡ Some q) (is : rows q ≡ Some (Faulted, call)) (now : ReqState) (services' : Reads Service)
       (not_posted : is_posted now ≡ 0) (not_waiting : is_waiting now ≡ 0) (not_faulted : is_faulted now ≡ 0) (fetched : is_fetched now ≡ true) (held : (v : ℕ) → holder now v ≡ Some v)
       (same_progress : (p : ℕ) → (service_at services' p).progress ≡ (service_at services p).progress) (same_worker : (p : ℕ) → (service_at services' p).worker ≡ (service_at services p).worker) (same_known : (p : ℕ) → is_some (services' p) ≡ is_some (services p)) where
-    abbrev rows' : Reads (ReqState × Call)
+    abbrev rows' : Reads (ReqState × CallRequest)
     rows' = with_at rows q (Some (now, call))
 
     others : (v j : ℕ) (a : Access) → IsForNext workers services v j a → IsForNext workers services' v j a

@@ -8,7 +8,7 @@ use Rattle.hybrid_model.specs.Fetch.{fetch_row, fetch_empty, installed}
 use Rattle.hybrid_model.specs.Rings.{ring, with_ring}
 use Rattle.hybrid_model.specs.Sides.{Side, Row, Service, service_of, with_state, LinuxSide}
 use Rattle.hybrid_model.specs.Tallies.{Reads, with_at}
-use Rattle.ikc_ring.specs.declared.Call.{Call}
+use Rattle.ikc_ring.specs.declared.CallRequest.{CallRequest}
 use Rattle.ikc_ring.specs.declared.Msg.TheVariants.{Answer}
 use Rattle.ikc_ring.specs.declared.Msg.{Msg}
 use Rattle.kernel_model.specs.Nodes.{Node}
@@ -20,17 +20,17 @@ use Rattle.std.proofs.Common.{arith, refl}
 use Rattle.std.proofs.lemmas.Bool.Decides.{nat_tests}
 use Rattle.std.specs.Prelude.{Bool, List, Option, Some, false, is_some, nat_lt, true, ℕ, ℤ, ◌∷◌, ◌≡◌, ◌≤◌}
 
-not-posted : (rows : Reads (ReqState × Call)) (q : ℕ) (now : ReqState) (c : Call) → is_posted now ≡ 0 → rows q ≡ Some (Faulted, c) → (x : ℕ) → is_posted (state_at (with_at rows q (Some (now, c))) x) ≡ is_posted (state_at rows x)
+not-posted : (rows : Reads (ReqState × CallRequest)) (q : ℕ) (now : ReqState) (c : CallRequest) → is_posted now ≡ 0 → rows q ≡ Some (Faulted, c) → (x : ℕ) → is_posted (state_at (with_at rows q (Some (now, c))) x) ≡ is_posted (state_at rows x)
 not-posted rows q now c z e x = grind (arith, nat_tests, e, z)
 
 module _ (p : ℕ) (side : Side) (node : Node) (worker_count : ℕ) (ring_of : ℕ → ℕ) (h : OfProcess p side node worker_count ring_of) (r w i n : ℕ) (o : Option Row) (ms : List Msg) (first : ring r side.to_linux ≡ Answer w i n o ∷ ms) where
-  abbrev rows : Reads (ReqState × Call)
+  abbrev rows : Reads (ReqState × CallRequest)
   rows = at side.book.rows
 
   abbrev services : Reads Service
   services = at side.linux.services
 
-  pub found : (q : ℕ) × (call : Call) × (at side.linux.workers w ≡ Some q) × (rows q ≡ Some (Faulted, call))
+  pub found : (q : ℕ) × (call : CallRequest) × (at side.linux.workers w ≡ Some q) × (rows q ≡ Some (Faulted, call))
   found = answered-for worker_count (at side.linux.workers) rows services (at side.linux.pins) side.book.waiting (at side.lwk.noted) side.to_linux side.to_lwk h.served r w i n o ms first
 
   abbrev left : List (List Msg)
@@ -84,7 +84,7 @@ module _ (p : ℕ) (side : Side) (node : Node) (worker_count : ℕ) (ring_of : �
   abbrev rest : List (List Msg)
   rest = with_ring r ms side.to_linux
 
-  abbrev taken : (q : ℕ) × (call : Call) × (at side.linux.workers w ≡ Some q) × (at side.book.rows q ≡ Some (Faulted, call))
+  abbrev taken : (q : ℕ) × (call : CallRequest) × (at side.linux.workers w ≡ Some q) × (at side.book.rows q ≡ Some (Faulted, call))
   taken = found p side node worker_count ring_of h r w i n (Some row) ms first
 
   by_age : (b : Bool) → nat_lt n side.linux.cleared ≡ b → OfProcess p (record side { linux = record side.linux { mirror = installed b side.linux.mirror i row }; book = with_state side.book taken.0 Held; to_linux = rest }) node worker_count ring_of

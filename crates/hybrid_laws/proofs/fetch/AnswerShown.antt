@@ -8,7 +8,7 @@ use Rattle.hybrid_model.specs.Rings.{ring, with_ring}
 use Rattle.hybrid_model.specs.Shown.{has_empty, serves_it, status_by, status_in, shown_own, reply_code}
 use Rattle.hybrid_model.specs.Sides.{Side, Row, Service, no_service, state_in, call_in, service_of, with_state, Noted}
 use Rattle.hybrid_model.specs.Tallies.{Reads, with_at, sum_rings}
-use Rattle.ikc_ring.specs.declared.Call.{Call}
+use Rattle.ikc_ring.specs.declared.CallRequest.{CallRequest}
 use Rattle.ikc_ring.specs.declared.Msg.TheVariants.{Answer}
 use Rattle.ikc_ring.specs.declared.Msg.{Msg}
 use Rattle.kernel_model.specs.Nodes.{Node}
@@ -21,7 +21,7 @@ use Rattle.std.proofs.Common.{ap, arith, refl, sym, ◌∙◌}
 use Rattle.std.proofs.lemmas.Bool.Decides.{nat_tests}
 use Rattle.std.specs.Prelude.{Bool, List, None, Option, Some, false, if◌then◌else◌, nat_lt, true, unwrap_or, ℕ, ◌==◌, ◌∷◌, ◌≡◌}
 
-module _ (worker_count : ℕ) (workers : Reads ℕ) (rows : Reads (ReqState × Call)) (services : Reads Service) (pins : Reads Pin) (waiting : List ℕ) (noted : Reads Noted) (rings : List (List Msg)) (bs : List Msg) (c : Served worker_count workers rows services pins waiting noted rings bs) (r w i n : ℕ) (ms : List Msg) (q : ℕ) (call : Call) (serving : workers w ≡ Some q) (is : rows q ≡ Some (Faulted, call)) where
+module _ (worker_count : ℕ) (workers : Reads ℕ) (rows : Reads (ReqState × CallRequest)) (services : Reads Service) (pins : Reads Pin) (waiting : List ℕ) (noted : Reads Noted) (rings : List (List Msg)) (bs : List Msg) (c : Served worker_count workers rows services pins waiting noted rings bs) (r w i n : ℕ) (ms : List Msg) (q : ℕ) (call : CallRequest) (serving : workers w ≡ Some q) (is : rows q ≡ Some (Faulted, call)) where
   alone : (v : ℕ) → serves_it q (workers v) ≡ true → v ≡ w
   alone v e = go (workers v) refl e
     where

@@ -14,7 +14,7 @@ use Rattle.hybrid_model.specs.Rings.{ring, with_ring}
 use Rattle.hybrid_model.specs.Shown.{has_empty, reply_code, shown_here, status_by, status_in, status_of}
 use Rattle.hybrid_model.specs.Sides.{Caller, Noted, Service, Side, call_in, no_service, service_of, state_in, state_of}
 use Rattle.hybrid_model.specs.Tallies.{EachNumbered, Reads, as_number, if_same, with_at}
-use Rattle.ikc_ring.specs.declared.Call.{Call}
+use Rattle.ikc_ring.specs.declared.CallRequest.{CallRequest}
 use Rattle.ikc_ring.specs.declared.Msg.TheVariants.{Ack, Answer, Clear, Fault, Interrupt, Reply, Request}
 use Rattle.ikc_ring.specs.declared.Msg.{Msg}
 use Rattle.kernel_model.specs.Nodes.{Node, Thread}
@@ -41,7 +41,7 @@ first-numbered P m k r ms [] e h = absurd (grind (arith, e))
 first-numbered P m k zero ms (ns ∷ rs) e h = (k, rw e at h.0)
 first-numbered P m k (suc r) ms (ns ∷ rs) e h = first-numbered P m (suc k) r ms rs e h.1
 
-module _ (rows : Reads (ReqState × Call)) (threads : Reads Thread) (ring_of : ℕ → ℕ) (callers : Reads Caller) (n : Req) (place : ℕ) where
+module _ (rows : Reads (ReqState × CallRequest)) (threads : Reads Thread) (ring_of : ℕ → ℕ) (callers : Reads Caller) (n : Req) (place : ℕ) where
   part-of-request : (L : List Msg) → AtMostRequest L → IsPart (state_at rows) L
   part-of-request [] h = h
   part-of-request (Request c ∷ ms) h = h
@@ -85,7 +85,7 @@ fetched-state Ended e f = absurd (grind (arith, e))
 fetched-state Replied e f = absurd (grind (arith, e))
 
 -- ---- services that move as far, for the same worker
-pub served-services : (worker_count : ℕ) (workers : Reads ℕ) (rows : Reads (ReqState × Call)) (services services' : Reads Service) (pins : Reads Pin) (waiting : List ℕ) (noted : Reads Noted) (rings : List (List Msg)) (bs : List Msg)
+pub served-services : (worker_count : ℕ) (workers : Reads ℕ) (rows : Reads (ReqState × CallRequest)) (services services' : Reads Service) (pins : Reads Pin) (waiting : List ℕ) (noted : Reads Noted) (rings : List (List Msg)) (bs : List Msg)
     → ((x : ℕ) → (service_at services' x).progress ≡ (service_at services x).progress) → ((x : ℕ) → (service_at services' x).worker ≡ (service_at services x).worker) → ((x : ℕ) → is_some (services' x) ≡ is_some (services x))
     → Served worker_count workers rows services pins waiting noted rings bs → Served worker_count workers rows services' pins waiting noted rings bs
 served-services worker_count workers rows services services' pins waiting noted rings bs same_progress same_worker same_known c = record {
@@ -181,7 +181,7 @@ module _ (p : ℕ) (side : Side) (node : Node) (worker_count : ℕ) (ring_of : �
 
 -- ---- it shows nothing
 module _ (h : Here) (r : ℕ) (q : Req) (place : ℕ) (ms : List Msg) (first : ring r h.side.to_linux ≡ Interrupt q place ∷ ms) where
-  same-status : (x : ℕ) (s : ReqState) (c : Call) (e : Bool) (code : ℤ) → status_in s c (service_at (with_at (at h.side.linux.services) q.0 (Some (record (service_at (at h.side.linux.services) q.0) { interrupted = true }))) x) e code ≡ status_in s c (service_at (at h.side.linux.services) x) e code
+  same-status : (x : ℕ) (s : ReqState) (c : CallRequest) (e : Bool) (code : ℤ) → status_in s c (service_at (with_at (at h.side.linux.services) q.0 (Some (record (service_at (at h.side.linux.services) q.0) { interrupted = true }))) x) e code ≡ status_in s c (service_at (at h.side.linux.services) x) e code
   same-status x s c e code = go s
     where
       progress : (service_at (with_at (at h.side.linux.services) q.0 (Some (record (service_at (at h.side.linux.services) q.0) { interrupted = true }))) x).progress ≡ (service_at (at h.side.linux.services) x).progress

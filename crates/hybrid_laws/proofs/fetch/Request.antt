@@ -7,7 +7,7 @@ use Rattle.hybrid_model.specs.Fetch.{fetch_request, new_service}
 use Rattle.hybrid_model.specs.Rings.{ring, with_ring}
 use Rattle.hybrid_model.specs.Sides.{Row, Round, Noted, Service, Caller, state_in, Side, no_service}
 use Rattle.hybrid_model.specs.Tallies.{Reads, with_at, sum_rings, EachRing, EachNumbered, if_same}
-use Rattle.ikc_ring.specs.declared.Call.{Call}
+use Rattle.ikc_ring.specs.declared.CallRequest.{CallRequest}
 use Rattle.ikc_ring.specs.declared.Msg.TheVariants.{Request, Clear, Answer, Interrupt, Reply, Ack, Fault}
 use Rattle.ikc_ring.specs.declared.Msg.{Msg}
 use Rattle.kernel_model.specs.Nodes.{Thread, Node}
@@ -21,8 +21,8 @@ use Rattle.std.proofs.lemmas.Bool.Decides.{nat_tests}
 use Rattle.std.specs.Prelude.{zero, suc, Bool, List, Option, Some, [], false, if◌then◌else◌, true, ℕ, ◌++◌, ◌+◌, ◌<◌, ◌==◌, ◌∷◌, ◌≡◌, ◌≢◌, unwrap_or}
 
 -- ---- requests
-module _ (worker_count : ℕ) (workers : Reads ℕ) (rows : Reads (ReqState × Call)) (services : Reads Service) (pins : Reads Pin) (waiting : List ℕ) (noted : Reads Noted) (rings : List (List Msg)) (bs : List Msg) (s : Served worker_count workers rows services pins waiting noted rings bs) (r q : ℕ) (c : Call) (ms : List Msg) (first : ring r rings ≡ Request c ∷ ms) (number : c.q.0 ≡ q) (is : rows q ≡ Some (Posted, c)) (k : Service) where
-  abbrev rows' : Reads (ReqState × Call)
+module _ (worker_count : ℕ) (workers : Reads ℕ) (rows : Reads (ReqState × CallRequest)) (services : Reads Service) (pins : Reads Pin) (waiting : List ℕ) (noted : Reads Noted) (rings : List (List Msg)) (bs : List Msg) (s : Served worker_count workers rows services pins waiting noted rings bs) (r q : ℕ) (c : CallRequest) (ms : List Msg) (first : ring r rings ≡ Request c ∷ ms) (number : c.q.0 ≡ q) (is : rows q ≡ Some (Posted, c)) (k : Service) where
+  abbrev rows' : Reads (ReqState × CallRequest)
   rows' = with_at rows q (Some (Waiting, c))
 
   abbrev services' : Reads Service
@@ -75,7 +75,7 @@ module _ (worker_count : ℕ) (workers : Reads ℕ) (rows : Reads (ReqState × C
   asked_fetch h = EachRing-where (asks q) (RequestIs rows) (RequestIs rows') (with_ring r ms rings) none-left asked-other (EachRing-take (RequestIs rows) r (Request c) ms rings first h)
 
 -- ---- the table and the round
-module _ (round : Option Round) (mirror table : Reads Row) (pins : Reads Pin) (begun cleared : ℕ) (rings : List (List Msg)) (bs : List Msg) (r : ℕ) (c : Call) (ms : List Msg) (first : ring r rings ≡ Request c ∷ ms) where
+module _ (round : Option Round) (mirror table : Reads Row) (pins : Reads Pin) (begun cleared : ℕ) (rings : List (List Msg)) (bs : List Msg) (r : ℕ) (c : CallRequest) (ms : List Msg) (first : ring r rings ≡ Request c ∷ ms) where
   pub covered_fetch : Covered table mirror pins begun cleared rings → Covered table mirror pins begun cleared (with_ring r ms rings)
   covered_fetch h = record {
     mirror_rows = h.mirror_rows;
@@ -110,8 +110,8 @@ take-numbered P Q m k (suc r) ms (ns ∷ rs) e f g h =
     let z : suc k + r ≡ k + suc r = omega arith in
     (f k ns (λ x. omega (arith, x)) h.0, take-numbered P Q m (suc k) r ms rs e (λ j x n y. f j x (λ w. n (w ∙ sym z)) y) (λ y. subst (λ (j : ℕ). Q j ms) (sym z) (g (subst (λ (j : ℕ). P j (m ∷ ms)) z y))) h.1)
 
-module _ (rows : Reads (ReqState × Call)) (threads : Reads Thread) (ring_of : ℕ → ℕ) (callers : Reads Caller) (next : ℕ) (bs : List Msg) (a : Answered rows callers next bs) (q : ℕ) (c : Call) (number : c.q.0 ≡ q) (is : rows q ≡ Some (Posted, c)) where
-  abbrev now : Reads (ReqState × Call)
+module _ (rows : Reads (ReqState × CallRequest)) (threads : Reads Thread) (ring_of : ℕ → ℕ) (callers : Reads Caller) (next : ℕ) (bs : List Msg) (a : Answered rows callers next bs) (q : ℕ) (c : CallRequest) (number : c.q.0 ≡ q) (is : rows q ≡ Some (Posted, c)) where
+  abbrev now : Reads (ReqState × CallRequest)
   now = with_at rows q (Some (Waiting, c))
 
   unposted : (n : ℕ) → is_posted (state_at rows n) ≡ 0 → is_posted (state_at now n) ≡ 0
@@ -227,7 +227,7 @@ module _ (rows : Reads (ReqState × Call)) (threads : Reads Thread) (ring_of : �
             (λ j ns n y. only-other (0 + r) own j ns n y.1) (λ y. only-taken (0 + r) ms y.0.parts y.1) (both-of 0 rings h.placed h.only);
       }
 
-module _ (p : ℕ) (side : Side) (node : Node) (worker_count : ℕ) (ring_of : ℕ → ℕ) (h : OfProcess p side node worker_count ring_of) (r : ℕ) (c : Call) (ms : List Msg) (first : ring r side.to_linux ≡ Request c ∷ ms) where
+module _ (p : ℕ) (side : Side) (node : Node) (worker_count : ℕ) (ring_of : ℕ → ℕ) (h : OfProcess p side node worker_count ring_of) (r : ℕ) (c : CallRequest) (ms : List Msg) (first : ring r side.to_linux ≡ Request c ∷ ms) where
   abbrev q : ℕ
   q = c.q.0
 

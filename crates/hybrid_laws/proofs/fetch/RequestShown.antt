@@ -8,7 +8,7 @@ use Rattle.hybrid_model.specs.Rings.{ring, with_ring}
 use Rattle.hybrid_model.specs.Shown.{has_empty, status_by, status_in, shown_own, reply_code}
 use Rattle.hybrid_model.specs.Sides.{Side, Service, no_service, state_in, call_in, with_state}
 use Rattle.hybrid_model.specs.Tallies.{Reads, with_at}
-use Rattle.ikc_ring.specs.declared.Call.{Call}
+use Rattle.ikc_ring.specs.declared.CallRequest.{CallRequest}
 use Rattle.ikc_ring.specs.declared.Msg.TheVariants.{Request}
 use Rattle.ikc_ring.specs.declared.Msg.{Msg}
 use Rattle.kernel_model.specs.Nodes.{Node}
@@ -19,7 +19,7 @@ use Rattle.std.proofs.Common.{ap, arith, refl}
 use Rattle.std.proofs.lemmas.Bool.Decides.{nat_tests}
 use Rattle.std.specs.Prelude.{Bool, List, Some, [], false, if◌then◌else◌, true, unwrap_or, ℕ, ◌++◌, ◌==◌, ◌∷◌, ◌≡◌}
 
-module _ (workers : Reads ℕ) (rows : Reads (ReqState × Call)) (services : Reads Service) (rings : List (List Msg)) (bs : List Msg) (r q : ℕ) (c : Call) (ms : List Msg) (first : ring r rings ≡ Request c ∷ ms) (is : rows q ≡ Some (Posted, c)) where
+module _ (workers : Reads ℕ) (rows : Reads (ReqState × CallRequest)) (services : Reads Service) (rings : List (List Msg)) (bs : List Msg) (r q : ℕ) (c : CallRequest) (ms : List Msg) (first : ring r rings ≡ Request c ∷ ms) (is : rows q ≡ Some (Posted, c)) where
   status-fetch : (x : ℕ) → status_by (with_at rows q (Some (Waiting, c))) (with_at services q (Some (new_service c))) workers (with_ring r ms rings) bs x ≡ status_by rows services workers rings bs x
   status-fetch x = go (x == q) refl
     where
@@ -29,7 +29,7 @@ module _ (workers : Reads ℕ) (rows : Reads (ReqState × Call)) (services : Rea
       go true e = let g : x ≡ q = grind (arith, nat_tests, e) in rw (g, is) refl
       go false e = ap (λ b. status_in (state_in (rows x)) (call_in (rows x)) (unwrap_or (services x) no_service) b (reply_code x bs)) (has_empty-take workers x r (Request c) ms rings refl first)
 
-pub image_fetch_request : (frames : Map (List ℕ)) (p : ℕ) (side : Side) (node : Node) (worker_count : ℕ) (ring_of : ℕ → ℕ) (h : OfProcess p side node worker_count ring_of) (r : ℕ) (c : Call) (ms : List Msg) → ring r side.to_linux ≡ Request c ∷ ms
+pub image_fetch_request : (frames : Map (List ℕ)) (p : ℕ) (side : Side) (node : Node) (worker_count : ℕ) (ring_of : ℕ → ℕ) (h : OfProcess p side node worker_count ring_of) (r : ℕ) (c : CallRequest) (ms : List Msg) → ring r side.to_linux ≡ Request c ∷ ms
     → shown_own frames (record side { linux = (fetch_request c side.linux side.book side.round).linux; book = (fetch_request c side.linux side.book side.round).book; round = side.round; to_linux = with_ring r ms side.to_linux }) ≡ shown_own frames side
 unfolding fetch_request
 image_fetch_request frames p side node worker_count ring_of h r c ms first =

@@ -19,7 +19,7 @@ use Rattle.hybrid_model.specs.Pairs.{Here, Pair, here, put_here}
 use Rattle.hybrid_model.specs.Rings.{ring, with_ring}
 use Rattle.hybrid_model.specs.Shown.{shown_own}
 use Rattle.hybrid_model.specs.Sides.{Book, Row, Service, no_service, service_of, state_in, state_of}
-use Rattle.ikc_ring.specs.declared.Call.{Call}
+use Rattle.ikc_ring.specs.declared.CallRequest.{CallRequest}
 use Rattle.ikc_ring.specs.declared.Msg.TheVariants.{Ack, Answer, Clear, Fault, Interrupt, Reply, Request}
 use Rattle.ikc_ring.specs.declared.Msg.{Msg}
 use Rattle.kernel_model.specs.Nodes.{is_there}
@@ -42,7 +42,7 @@ length-with_ring zero ms (ns ∷ rs) = refl
 length-with_ring (suc r) ms (ns ∷ rs) = ap suc (length-with_ring r ms rs)
 
 -- a request in another state isn't one that waits or is held
-pub not-that : (b : Book) (n : ℕ) (s : ReqState) (call : Call) → at b.rows n ≡ Some (s, call) → waits_or_held s ≡ false → (x : ℕ) → waits_or_held (state_of b x) ≡ true → (x == n) ≡ false
+pub not-that : (b : Book) (n : ℕ) (s : ReqState) (call : CallRequest) → at b.rows n ≡ Some (s, call) → waits_or_held s ≡ false → (x : ℕ) → waits_or_held (state_of b x) ≡ true → (x == n) ≡ false
 not-that b n s call is idle x u = go (x == n) refl
   where
     go : (t : Bool) → (x == n) ≡ t → t ≡ false
@@ -65,7 +65,7 @@ module _ (pair : Pair) (c : Coherent pair) (q : Pid) (r : ℕ) (e : may pair (Ev
   abbrev Stays : Msg → Type 0
   Stays m = (x : ℕ) → waits_or_held (state_of h.side.book x) ≡ true → (waits_or_held (state_of (fetch_message m h.side.linux h.side.book h.side.round).book x) ≡ true) × ((service_of (fetch_message m h.side.linux h.side.book h.side.round).linux.services x).progress ≡ (service_of h.side.linux.services x).progress)
 
-  stays-request : (n : Call) (ms : List Msg) → ring r h.side.to_linux ≡ Request n ∷ ms → Stays (Request n)
+  stays-request : (n : CallRequest) (ms : List Msg) → ring r h.side.to_linux ≡ Request n ∷ ms → Stays (Request n)
   unfolding fetch_request
   stays-request n ms first x u =
       let is = first-of (RequestIs (at h.side.book.rows)) r (Request n) ms h.side.to_linux first k.asked in

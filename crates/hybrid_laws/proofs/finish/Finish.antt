@@ -19,7 +19,7 @@ use Rattle.hybrid_model.specs.Pairs.{Here}
 use Rattle.hybrid_model.specs.Shown.{status_of}
 use Rattle.hybrid_model.specs.Sides.{Caller, Noted, Service, Side, no_service, serves, service_of, state_of}
 use Rattle.hybrid_model.specs.Tallies.{Reads, counted, if_same, sum_rings, tally, with_at}
-use Rattle.ikc_ring.specs.declared.Call.{Call}
+use Rattle.ikc_ring.specs.declared.CallRequest.{CallRequest}
 use Rattle.ikc_ring.specs.declared.Msg.TheVariants.{Ack, Answer, Clear, Fault, Interrupt, Reply, Request}
 use Rattle.ikc_ring.specs.declared.Msg.{Msg}
 use Rattle.kernel_model.specs.OneKernel.{Over}
@@ -46,8 +46,8 @@ may-finish h q w e =
     record { below = grind (arith, nat_tests, a.0); request = ended-it h.side.linux h.side.book w c.0 c.1; no_pin = no-none (at h.side.linux.pins w) b.1 }
 
 -- ---- requests
-module _ (worker_count : ℕ) (workers : Reads ℕ) (rows : Reads (ReqState × Call)) (services : Reads Service) (pins : Reads Pin) (waiting : List ℕ) (noted : Reads Noted) (rings : List (List Msg)) (bs : List Msg) (c : Served worker_count workers rows services pins waiting noted rings bs) (w q : ℕ) (call : Call) (serving : workers w ≡ Some q) (is : rows q ≡ Some (Ended, call)) (no_pin : pins w ≡ None) (answer : ℤ) where
-  abbrev rows' : Reads (ReqState × Call)
+module _ (worker_count : ℕ) (workers : Reads ℕ) (rows : Reads (ReqState × CallRequest)) (services : Reads Service) (pins : Reads Pin) (waiting : List ℕ) (noted : Reads Noted) (rings : List (List Msg)) (bs : List Msg) (c : Served worker_count workers rows services pins waiting noted rings bs) (w q : ℕ) (call : CallRequest) (serving : workers w ≡ Some q) (is : rows q ≡ Some (Ended, call)) (no_pin : pins w ≡ None) (answer : ℤ) where
+  abbrev rows' : Reads (ReqState × CallRequest)
   rows' = with_at rows q None
 
   abbrev workers' : Reads ℕ
@@ -107,8 +107,8 @@ module _ (worker_count : ℕ) (workers : Reads ℕ) (rows : Reads (ReqState × C
   }
 
 -- ---- replies
-module _ (rows : Reads (ReqState × Call)) (callers : Reads Caller) (next : ℕ) (bs : List Msg) (c : Answered rows callers next bs) (q : ℕ) (call : Call) (is : rows q ≡ Some (Ended, call)) (answer : ℤ) where
-  abbrev book : Reads (ReqState × Call)
+module _ (rows : Reads (ReqState × CallRequest)) (callers : Reads Caller) (next : ℕ) (bs : List Msg) (c : Answered rows callers next bs) (q : ℕ) (call : CallRequest) (is : rows q ≡ Some (Ended, call)) (answer : ℤ) where
+  abbrev book : Reads (ReqState × CallRequest)
   book = with_at rows q None
 
   abbrev reply_sent : Msg
@@ -158,10 +158,10 @@ module _ (p : ℕ) (h : Here) (ring_number : ℕ → ℕ) (k : OfProcess p h.sid
   abbrev answer : ℤ
   answer = (service_of h.side.linux.services n).answer
 
-  abbrev rows : Reads (ReqState × Call)
+  abbrev rows : Reads (ReqState × CallRequest)
   rows = at h.side.book.rows
 
-  abbrev without : Reads (ReqState × Call)
+  abbrev without : Reads (ReqState × CallRequest)
   without = with_at rows n None
 
   abbrev side' : Side

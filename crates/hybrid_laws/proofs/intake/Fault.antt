@@ -1,7 +1,6 @@
 -- Intake of a Fault keeps what holds of the process, and shows nothing.
 use Rattle.hybrid_model.specs.declared.events.Event.TheVariants as Events
 use Rattle.hybrid_laws.proofs.maps.Reading.{reads-put}
-use Rattle.hybrid_laws.proofs.node.Primitives.{then}
 use Rattle.hybrid_laws.proofs.requests.Showing.{shown-same}
 use Rattle.hybrid_laws.proofs.states.Simulated.{simulated-none}
 use Rattle.hybrid_laws.specs.Simulated.{Simulated}
@@ -13,7 +12,7 @@ use Rattle.hybrid_model.specs.Pairs.{Here}
 use Rattle.hybrid_model.specs.Shown.{shown_born, shown_here}
 use Rattle.hybrid_model.specs.Sides.{Caller, Noted, Service, Side}
 use Rattle.hybrid_model.specs.Tallies.{Reads, with_at}
-use Rattle.ikc_ring.specs.declared.Call.{Call}
+use Rattle.ikc_ring.specs.declared.CallRequest.{CallRequest}
 use Rattle.ikc_ring.specs.declared.Msg.TheVariants.{Fault}
 use Rattle.ikc_ring.specs.declared.Msg.{Msg}
 use Rattle.mck_word.specs.Identifiers.{pid}
@@ -27,7 +26,7 @@ use Rattle.std.proofs.lemmas.Bool.Decides.{nat_tests}
 use Rattle.std.specs.Prelude.{Bool, List, None, Option, Some, false, if◌then◌else◌, length, true, ℕ, ◌==◌, ◌∷◌, ◌≡◌, ◌≤◌}
 
 -- a message that is no Reply is taken
-pub Answered-pop : (rows : Reads (ReqState × Call)) (callers : Reads Caller) (next : ℕ) (m : Msg) (bs : List Msg) → ((q : ℕ) → replies_to q m ≡ 0) → Answered rows callers next (m ∷ bs) → Answered rows callers next bs
+pub Answered-pop : (rows : Reads (ReqState × CallRequest)) (callers : Reads Caller) (next : ℕ) (m : Msg) (bs : List Msg) → ((q : ℕ) → replies_to q m ≡ 0) → Answered rows callers next (m ∷ bs) → Answered rows callers next bs
 Answered-pop rows callers next m bs none a = record {
   awaited = a.awaited.1;
   calls = λ t c e. let k = a.calls t c e in record { given = k.given; named = k.named; replied = λ u. omega (arith, k.replied u, none c.request) };
@@ -39,7 +38,7 @@ Answered-pop rows callers next m bs none a = record {
 }
 
 -- a worker's request is Faulted or not
-pub at-most : (rows : Reads (ReqState × Call)) (o : Option ℕ) → faulting rows o ≤ 1
+pub at-most : (rows : Reads (ReqState × CallRequest)) (o : Option ℕ) → faulting rows o ≤ 1
 at-most rows None = omega arith
 at-most rows (Some q) = go (state_at rows q)
   where
@@ -52,7 +51,7 @@ at-most rows (Some q) = go (state_at rows q)
     go Ended = omega arith
     go Replied = omega arith
 
-module _ (worker_count : ℕ) (workers : Reads ℕ) (rows : Reads (ReqState × Call)) (services : Reads Service) (pins : Reads Pin) (waiting : List ℕ) (noted : Reads Noted) (rings : List (List Msg)) (bs : List Msg) (w page : ℕ) (a : Access) (s : Served worker_count workers rows services pins waiting noted rings (Fault w page a ∷ bs)) where
+module _ (worker_count : ℕ) (workers : Reads ℕ) (rows : Reads (ReqState × CallRequest)) (services : Reads Service) (pins : Reads Pin) (waiting : List ℕ) (noted : Reads Noted) (rings : List (List Msg)) (bs : List Msg) (w page : ℕ) (a : Access) (s : Served worker_count workers rows services pins waiting noted rings (Fault w page a ∷ bs)) where
   pub served_fault : Served worker_count workers rows services pins waiting (with_at noted w (Some (page, a))) rings bs
   served_fault = record {
     worker_below = s.worker_below;

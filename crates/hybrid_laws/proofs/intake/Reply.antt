@@ -5,7 +5,7 @@ use Rattle.hybrid_model.specs.declared.events.Event.TheVariants as Events
 use Rattle.hybrid_laws.proofs.maps.Lookups.{CallerIs, caller-found}
 use Rattle.hybrid_laws.proofs.maps.Reading.{Each-where, reads-cut}
 use Rattle.hybrid_laws.proofs.node.Keeps.{Keeps, calls-found, interrupts-stay, messages-stay, node-keeps, owned-keeps}
-use Rattle.hybrid_laws.proofs.node.Primitives.{returns-free, then}
+use Rattle.hybrid_laws.proofs.node.Primitives.{returns-free}
 use Rattle.hybrid_laws.proofs.node.Threads.{called_in, returned-not}
 use Rattle.hybrid_laws.proofs.rings.Placing.{EachNumbered-map}
 use Rattle.hybrid_laws.proofs.states.Simulated.{simulated-one}
@@ -20,7 +20,7 @@ use Rattle.hybrid_model.specs.Shown.{shown_born, shown_call, shown_here, status_
 use Rattle.hybrid_model.specs.Sides.{Caller, Service, Side}
 use Rattle.hybrid_model.specs.Spaces.{shown_memory}
 use Rattle.hybrid_model.specs.Tallies.{Reads, if_same, tally, with_at}
-use Rattle.ikc_ring.specs.declared.Call.{Call}
+use Rattle.ikc_ring.specs.declared.CallRequest.{CallRequest}
 use Rattle.ikc_ring.specs.declared.Msg.TheVariants.{Ack, Answer, Clear, Fault, Interrupt, Reply, Request}
 use Rattle.ikc_ring.specs.declared.Msg.{Msg}
 use Rattle.kernel_model.specs.Nodes.{Node, Thread, is_called, change_in, process_of}
@@ -38,7 +38,7 @@ use Rattle.std.proofs.lemmas.Bool.Decides.{nat_tests}
 use Rattle.std.specs.Prelude.{Bool, List, None, Some, false, if◌then◌else◌, true, ℕ, ℤ, ◌==◌, ◌∷◌, ◌≡◌, is_some, ◌≢◌, Option, [], cond, length}
 
 -- ---- replies and callers
-module _ (rows : Reads (ReqState × Call)) (callers : Reads Caller) (next q : ℕ) (n : Req) (number : n.0 ≡ q) (code : ℤ) (bs : List Msg) (a : Answered rows callers next (Reply n code ∷ bs)) (t : ℕ) (c : Caller) (calls : callers t ≡ Some c) (calls_q : c.request ≡ q) where
+module _ (rows : Reads (ReqState × CallRequest)) (callers : Reads Caller) (next q : ℕ) (n : Req) (number : n.0 ≡ q) (code : ℤ) (bs : List Msg) (a : Answered rows callers next (Reply n code ∷ bs)) (t : ℕ) (c : Caller) (calls : callers t ≡ Some c) (calls_q : c.request ≡ q) where
   abbrev callers' : Reads Caller
   callers' = with_at callers t None
 
@@ -120,7 +120,7 @@ module _ (rows : Reads (ReqState × Call)) (callers : Reads Caller) (next q : �
   }
 
 -- ---- fewer callers
-module _ (rows : Reads (ReqState × Call)) (threads : Reads Thread) (ring_of : ℕ → ℕ) (callers : Reads Caller) (t : ℕ) where
+module _ (rows : Reads (ReqState × CallRequest)) (threads : Reads Thread) (ring_of : ℕ → ℕ) (callers : Reads Caller) (t : ℕ) where
   fewer : (u : ℕ) (d : Caller) → with_at callers t None u ≡ Some d → callers u ≡ Some d
   fewer u d e = go (u == t) e
     where

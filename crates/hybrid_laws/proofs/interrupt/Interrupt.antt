@@ -7,7 +7,7 @@ use Rattle.hybrid_laws.proofs.maps.Reading.{Each-map, EachRing-post, reads-put, 
 use Rattle.hybrid_laws.proofs.maps.Tests.{both, not-true, some-is}
 use Rattle.hybrid_laws.proofs.memory.ViewShown.{none-idle, none_free}
 use Rattle.hybrid_laws.proofs.node.Keeps.{node-keeps}
-use Rattle.hybrid_laws.proofs.node.Primitives.{called_back-free, moved-keeps, then}
+use Rattle.hybrid_laws.proofs.node.Primitives.{called_back-free, moved-keeps}
 use Rattle.hybrid_laws.proofs.node.Threads.{IsThread, idle-one, rests-free, thread-is}
 use Rattle.hybrid_laws.proofs.requests.Showing.{has_empty-post}
 use Rattle.hybrid_laws.proofs.states.Simulated.{simulated-one}
@@ -24,7 +24,7 @@ use Rattle.hybrid_model.specs.Shown.{reply_code, shown_born, shown_call, shown_h
 use Rattle.hybrid_model.specs.Sides.{Caller, Round, Side, call_in, no_service, state_in}
 use Rattle.hybrid_model.specs.Spaces.{shown_memory}
 use Rattle.hybrid_model.specs.Tallies.{Reads, as_number, if_same, sum_rings, with_at}
-use Rattle.ikc_ring.specs.declared.Call.{Call}
+use Rattle.ikc_ring.specs.declared.CallRequest.{CallRequest}
 use Rattle.ikc_ring.specs.declared.Msg.TheVariants.{Ack, Answer, Clear, Fault, Interrupt, Reply, Request}
 use Rattle.ikc_ring.specs.declared.Msg.{Msg}
 use Rattle.kernel_model.specs.Nodes.{Node, Thread, is_living, rests, thread_of}
@@ -42,7 +42,7 @@ use Rattle.std.proofs.lemmas.Bool.Decides.{nat_tests}
 use Rattle.std.specs.Prelude.{Bool, List, None, Option, Some, cond, false, if◌then◌else◌, is_some, length, not, true, unwrap_or, ℕ, ◌&&◌, ◌+◌, ◌<◌, ◌==◌, ◌||◌, ◌≡◌, ◌≤◌}
 
 -- ---- a call is marked
-module _ (rows : Reads (ReqState × Call)) (callers : Reads Caller) (next : ℕ) (bs : List Msg) (t : ℕ) (c : Caller) (calls : callers t ≡ Some c) where
+module _ (rows : Reads (ReqState × CallRequest)) (callers : Reads Caller) (next : ℕ) (bs : List Msg) (t : ℕ) (c : Caller) (calls : callers t ≡ Some c) where
   abbrev pub marking : Reads Caller
   marking = with_at callers t (Some (record c { marked = true }))
 

@@ -1,17 +1,15 @@
 -- The Interrupt of a call that is not marked, posted to its thread's ring, keeps what is said of the messages of each place.
 use Rattle.hybrid_laws.proofs.maps.Reading.{Each-both, Each-map, Each-push, Each-where}
-use Rattle.hybrid_laws.proofs.node.Primitives.{then}
 use Rattle.hybrid_laws.proofs.rings.Placing.{EachNumbered-map}
 use Rattle.hybrid_laws.proofs.trap.Posted.{Each-place, post-numbered}
 use Rattle.hybrid_model.specs.Coherence.{Answered, AtMostInterrupt, CallsAgree, InOwnRing, IsPart, Messages, OnlyOwn, Placed, RequestIs, asks, calls_it, interrupts_of, is_live, is_of_place, is_posted, of_place, place_in, posted, state_at, tid_in}
 use Rattle.hybrid_model.specs.Rings.{post}
 use Rattle.hybrid_model.specs.Sides.{Caller}
 use Rattle.hybrid_model.specs.Tallies.{Each, EachNumbered, EachRing, Reads, if_same, sum_rings, tally, with_at}
-use Rattle.ikc_ring.specs.declared.Call.{Call}
+use Rattle.ikc_ring.specs.declared.CallRequest.{CallRequest}
 use Rattle.ikc_ring.specs.declared.Msg.TheVariants.{Ack, Answer, Clear, Fault, Interrupt, Reply, Request}
 use Rattle.ikc_ring.specs.declared.Msg.{Msg}
 use Rattle.kernel_model.specs.Nodes.{Thread}
-use Rattle.mck_word.specs.Maps.{at}
 use Rattle.mck_word.specs.declared.Req.{Req}
 use Rattle.request_book.specs.declared.ReqState.{ReqState}
 use Rattle.std.proofs.Common.{ap, arith, refl, subst, sym, ◌∙◌}
@@ -109,7 +107,7 @@ pub numbered-both : (P Q : ℕ → List Msg → Type 0) (k : ℕ) (rs : List (Li
 numbered-both P Q k [] a b = tt
 numbered-both P Q k (ms ∷ rs) a b = ((a.0, b.0), numbered-both P Q (suc k) rs a.1 b.1)
 
-module _ (p : ℕ) (rows : Reads (ReqState × Call)) (threads : Reads Thread) (ring_of : ℕ → ℕ) (callers : Reads Caller) (next : ℕ) (bs : List Msg) (a : Answered rows callers next bs) (g : CallsAgree p threads callers)
+module _ (p : ℕ) (rows : Reads (ReqState × CallRequest)) (threads : Reads Thread) (ring_of : ℕ → ℕ) (callers : Reads Caller) (next : ℕ) (bs : List Msg) (a : Answered rows callers next bs) (g : CallsAgree p threads callers)
     (t : ℕ) (x : Thread) (there : threads t ≡ Some x) (mine : x.process ≡ p) (apart : (u v : ℕ) (d e : Thread) → threads u ≡ Some d → threads v ≡ Some e → d.process ≡ e.process → d.place ≡ e.place → u ≡ v)
     (c : Caller) (calls : callers t ≡ Some c) (n : Req) (number : n.0 ≡ c.request) where
   abbrev callers' : Reads Caller
@@ -122,7 +120,7 @@ module _ (p : ℕ) (rows : Reads (ReqState × Call)) (threads : Reads Thread) (r
   calls-n = ap (calls_it n.0) calls ∙ (let e : (c.request == n.0) ≡ true = grind (arith, nat_tests, number) in e)
 
   -- a Request of q is of thread t
-  tid-of : (z : Call) → RequestIs rows (Request z) → z.q.0 ≡ n.0 → z.tid.0 ≡ t
+  tid-of : (z : CallRequest) → RequestIs rows (Request z) → z.q.0 ≡ n.0 → z.tid.0 ≡ t
   tid-of z h e =
       let k = a.calls t c calls in
       let live : is_live (state_at rows c.request) ≡ true = (let f = e ∙ number in ap (λ (v : ℕ). is_live (state_at rows v)) (sym f) ∙ rw h refl) in
@@ -130,7 +128,7 @@ module _ (p : ℕ) (rows : Reads (ReqState × Call)) (threads : Reads Thread) (r
       sym (ap tid_in h) ∙ ap (λ (v : ℕ). tid_in (rows v)) f ∙ k.named live
 
   -- a Request of t's place is of q
-  request-of : (z : Call) → RequestIs rows (Request z) → place_in x.place (threads z.tid.0) ≡ true → z.q.0 ≡ n.0
+  request-of : (z : CallRequest) → RequestIs rows (Request z) → place_in x.place (threads z.tid.0) ≡ true → z.q.0 ≡ n.0
   request-of z h e = go (callers z.tid.0) refl (rw h at (a.live z.q.0 (rw h refl)))
     where
       go : (o : Option Caller) → callers z.tid.0 ≡ o → calls_it z.q.0 o ≡ true → z.q.0 ≡ n.0

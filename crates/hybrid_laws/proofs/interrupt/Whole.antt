@@ -1,6 +1,5 @@
 -- Interrupt in the whole state.
 use Rattle.hybrid_model.specs.declared.events.Event.TheVariants as Events
-use Rattle.kernel_model.specs.declared.steps.Step.TheVariants as OneSteps
 use Rattle.file_model.specs.Files.{Files, description_of}
 use Rattle.hybrid_laws.proofs.begin_vm.Whole.{length-post, rings-hold}
 use Rattle.hybrid_laws.proofs.calls.Closed.{Leaves, moved-closed}

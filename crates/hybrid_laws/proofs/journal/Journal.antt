@@ -21,7 +21,7 @@ use Rattle.hybrid_model.specs.Shown.{one}
 use Rattle.hybrid_model.specs.Sides.{Book, no_book, state_in, state_of}
 use Rattle.hybrid_model.specs.Tallies.{as_number}
 use Rattle.hybrid_model.specs.declared.events.Event.{Event}
-use Rattle.ikc_ring.specs.declared.Call.{Call}
+use Rattle.ikc_ring.specs.declared.CallRequest.{CallRequest}
 use Rattle.job_model.specs.declared.image.Image.{Image}
 use Rattle.job_model.specs.declared.job.Job.{Job}
 use Rattle.kernel_model.specs.Nodes.{is_dying, is_living, is_there}
@@ -30,7 +30,7 @@ use Rattle.mck_word.specs.Maps.{at}
 use Rattle.request_book.specs.declared.ReqState.{ReqState}
 use Rattle.std.proofs.Common.{ap, arith, inl, inr, refl, subst, sym, ◌∙◌}
 use Rattle.std.proofs.lemmas.Bool.Decides.{nat_tests}
-use Rattle.std.specs.Prelude.{Bool, List, None, Option, Some, [], false, is_none, nat_lt, true, ℕ, ◌&&◌, ◌++◌, ◌+◌, ◌<◌, ◌∷◌, ◌≡◌, ◌≤◌, ◌⊎◌}
+use Rattle.std.specs.Prelude.{Bool, List, None, Option, Some, [], false, is_none, nat_lt, true, ℕ, ◌&&◌, ◌++◌, ◌<◌, ◌∷◌, ◌≡◌, ◌≤◌, ◌⊎◌}
 
 -- what holds of each event that may happen in a coherent state
 abbrev pub EachEvent : Type 0
@@ -70,7 +70,7 @@ follows every (e ∷ es) pair c l m =
     }
 
 -- ---- the end of a journal
-gone-most : (o : Option (ReqState × Call)) (q next : ℕ) → gone_in o q next ≤ 1
+gone-most : (o : Option (ReqState × CallRequest)) (q next : ℕ) → gone_in o q next ≤ 1
 gone-most o q next = go (nat_lt q next && is_none o)
   where
     go : (b : Bool) → as_number b ≤ 1
@@ -78,7 +78,7 @@ gone-most o q next = go (nat_lt q next && is_none o)
     go false = omega arith
 
 -- a request that is still in the book where no event may happen waits for ever
-waits-for-ever : (pair : Pair) → Coherent pair → Lasting pair → IsOver pair → (p q : ℕ) (r : ReqState × Call) → at (side_of pair p).book.rows q ≡ Some r → WaitsForEver pair p q
+waits-for-ever : (pair : Pair) → Coherent pair → Lasting pair → IsOver pair → (p q : ℕ) (r : ReqState × CallRequest) → at (side_of pair p).book.rows q ≡ Some r → WaitsForEver pair p q
 waits-for-ever pair c l over p q r e =
     (parked pair c l over p there q live, living (there-lives pair.node p there))
   where
@@ -96,7 +96,7 @@ waits-for-ever pair c l over p q r e =
 pub answered-or-waits : (pair : Pair) → Coherent pair → Lasting pair → IsOver pair → (p q : ℕ) → q < (side_of pair p).book.next → (gone (side_of pair p) q ≡ 1) ⊎ WaitsForEver pair p q
 answered-or-waits pair c l over p q below = go (at (side_of pair p).book.rows q) refl
   where
-    go : (o : Option (ReqState × Call)) → at (side_of pair p).book.rows q ≡ o → (gone (side_of pair p) q ≡ 1) ⊎ WaitsForEver pair p q
+    go : (o : Option (ReqState × CallRequest)) → at (side_of pair p).book.rows q ≡ o → (gone (side_of pair p) q ≡ 1) ⊎ WaitsForEver pair p q
     go (Some r) e = inr (waits-for-ever pair c l over p q r e)
     go None e = inl (let a : nat_lt q (side_of pair p).book.next ≡ true = grind (arith, nat_tests, below) in (λ i. as_number (a i && is_none (e i))))
 

@@ -30,7 +30,7 @@ use Rattle.hybrid_model.specs.Rings.{all_empty, ring}
 use Rattle.hybrid_model.specs.Sides.{Caller, Noted, Round, Row, Side, Turn, serves, service_of, state_in, state_of}
 use Rattle.hybrid_model.specs.Tallies.{Each, as_number, counted, if_same, sum_rings, tally}
 use Rattle.hybrid_model.specs.declared.events.Event.{Event}
-use Rattle.ikc_ring.specs.declared.Call.{Call}
+use Rattle.ikc_ring.specs.declared.CallRequest.{CallRequest}
 use Rattle.ikc_ring.specs.declared.Msg.{Msg}
 use Rattle.kernel_model.specs.Nodes.{Node, Process, dying, has_ended, has_process, is_dying, is_ended, is_living, is_there, lives, no_process, process_of, thread_of}
 use Rattle.kernel_model.specs.Progress.{is_file_step, is_not_ready, is_ready, next_kind}
@@ -313,7 +313,7 @@ module _ (pair : Pair) (c : Coherent pair) (l : Lasting pair) (over : IsOver pai
     pub call-parked : (t : ℕ) (x : Caller) → at s.lwk.callers t ≡ Some x → state_of s.book x.request ≡ Parked
     call-parked t x e = go (at s.book.rows x.request) refl
       where
-        go : (o : Option (ReqState × Call)) → at s.book.rows x.request ≡ o → state_of s.book x.request ≡ Parked
+        go : (o : Option (ReqState × CallRequest)) → at s.book.rows x.request ≡ o → state_of s.book x.request ≡ Parked
         go None f = absurd (let a = (k.answered.calls t x e).replied f in let b = ap (tally (replies_to x.request)) no-back in omega (arith, a, b))
         go (Some r) f = parked x.request (ap (λ o. is_live (state_in o)) f ∙ k.answered.not_replied x.request r f)
 

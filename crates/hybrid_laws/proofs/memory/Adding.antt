@@ -2,10 +2,9 @@
 use Rattle.kernel_model.specs.Spaces as one
 use Rattle.hybrid_laws.proofs.maps.Reading.{reads-put}
 use Rattle.hybrid_laws.proofs.memory.Dropping.{shown_space}
-use Rattle.hybrid_laws.proofs.node.Primitives.{at-change, then}
+use Rattle.hybrid_laws.proofs.node.Primitives.{at-change}
 use Rattle.hybrid_laws.specs.OneProcess.{with_table}
 use Rattle.hybrid_model.specs.Globals.{Frames, Rising, copies}
-use Rattle.hybrid_model.specs.Shown.{one}
 use Rattle.hybrid_model.specs.Sides.{Row}
 use Rattle.hybrid_model.specs.Spaces.{Space, add_page, first_number, frame_bytes, protect_page, rest_numbers, shown_memory, shown_row}
 use Rattle.hybrid_model.specs.Tallies.{Reads, with_at}

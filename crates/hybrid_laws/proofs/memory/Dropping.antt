@@ -1,10 +1,8 @@
 -- Pages taken away: rows outside the range stay, frames stay apart, and the one-kernel machine does the same.
 use Rattle.kernel_model.specs.Spaces as one
 use Rattle.hybrid_laws.proofs.maps.Reading.{reads-cut}
-use Rattle.hybrid_laws.proofs.node.Primitives.{then}
 use Rattle.hybrid_laws.specs.OneProcess.{with_table}
 use Rattle.hybrid_model.specs.Globals.{Frames, copies, Rising}
-use Rattle.hybrid_model.specs.Shown.{one}
 use Rattle.hybrid_model.specs.Sides.{Row}
 use Rattle.hybrid_model.specs.Spaces.{Space, drop_page, give_back, insert_frame, shown_memory, shown_row}
 use Rattle.hybrid_model.specs.Tallies.{Reads, with_at, tally, if_same}

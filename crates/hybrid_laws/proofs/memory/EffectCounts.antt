@@ -1,5 +1,4 @@
 -- A whole effect neither makes nor loses a frame: rows and free frames stay below the count, and together as many.
-use Rattle.kernel_model.specs.Spaces as one
 use Rattle.std.specs.FinMap as finmap
 use Rattle.hybrid_laws.proofs.intake.Ack.{falls, is-none}
 use Rattle.hybrid_laws.proofs.maps.Sums.{counted_in, total-cut, total-put}

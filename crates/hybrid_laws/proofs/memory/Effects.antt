@@ -4,11 +4,9 @@ use Rattle.hybrid_laws.proofs.maps.Sums.{counted_at, sum_of, total-cut-by}
 use Rattle.hybrid_laws.proofs.memory.Adding.{add_other, frames_add, frames_protect, outside_range, protect_other, shown_add, shown_protect}
 use Rattle.hybrid_laws.proofs.memory.Dropping.{drop_other, frames_drops, shown_drops, shown_space}
 use Rattle.hybrid_laws.proofs.memory.Written.{each-entry}
-use Rattle.hybrid_laws.proofs.node.Primitives.{then}
 use Rattle.hybrid_laws.proofs.run.Run.{TableApart}
 use Rattle.hybrid_laws.specs.OneProcess.{FramesOf}
 use Rattle.hybrid_model.specs.Globals.{copies}
-use Rattle.hybrid_model.specs.Shown.{one}
 use Rattle.hybrid_model.specs.Sides.{Row}
 use Rattle.hybrid_model.specs.Spaces.{Space, add_page, after_effect, drop_page, protect_page, rest_numbers, shown_memory}
 use Rattle.hybrid_model.specs.Tallies.{Each, Reads}

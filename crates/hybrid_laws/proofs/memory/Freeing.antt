@@ -5,7 +5,6 @@ use Rattle.hybrid_laws.proofs.maps.Sums.{counted_in, total-le, total-put}
 use Rattle.hybrid_laws.proofs.memory.Adding.{rising-above, rising-rest}
 use Rattle.hybrid_laws.proofs.memory.Dropping.{copies-insert, rising-insert}
 use Rattle.hybrid_laws.proofs.memory.Written.{each-entry}
-use Rattle.hybrid_laws.proofs.node.Primitives.{then}
 use Rattle.hybrid_laws.specs.OneProcess.{with_table}
 use Rattle.hybrid_model.specs.Globals.{Frames, Rising, copies}
 use Rattle.hybrid_model.specs.Sides.{Row}

@@ -4,7 +4,7 @@ use Rattle.hybrid_model.specs.Coherence.{AnswerCovered, AnswerIsFor, ClearIsOf, 
 use Rattle.hybrid_model.specs.Rings.{all_empty}
 use Rattle.hybrid_model.specs.Sides.{Caller, Noted, Row, Service, new_side, no_lwk, state_in}
 use Rattle.hybrid_model.specs.Tallies.{counted as counted_noted, sum_rings, tally}
-use Rattle.ikc_ring.specs.declared.Call.{Call}
+use Rattle.ikc_ring.specs.declared.CallRequest.{CallRequest}
 use Rattle.ikc_ring.specs.declared.Msg.{Msg}
 use Rattle.kernel_model.specs.Nodes.{Node, Thread, is_called}
 use Rattle.mck_word.specs.MapLaws.{at-none}
@@ -36,11 +36,11 @@ new_side-keeps p rings table node workers ring none =
       owned = tt;
       served = record {
         worker_below = λ w q f. absurd (no-at w q f);
-        requests = λ q. sum-empty (asks q) rs e ∙ sym (ap (λ (o : Option (ReqState × Call)). is_posted (state_in o)) (at-none q));
-        waits = λ q. sym (ap (λ (o : Option (ReqState × Call)). is_waiting (state_in o)) (at-none q));
-        known = λ q. ap (λ (o : Option (ReqState × Call)). is_fetched (state_in o)) (at-none q) ∙ sym (ap (λ (o : Option Service). is_some o) (at-none q));
+        requests = λ q. sum-empty (asks q) rs e ∙ sym (ap (λ (o : Option (ReqState × CallRequest)). is_posted (state_in o)) (at-none q));
+        waits = λ q. sym (ap (λ (o : Option (ReqState × CallRequest)). is_waiting (state_in o)) (at-none q));
+        known = λ q. ap (λ (o : Option (ReqState × CallRequest)). is_fetched (state_in o)) (at-none q) ∙ sym (ap (λ (o : Option Service). is_some o) (at-none q));
         workers_hold = λ w q f. absurd (no-at w q f);
-        held_by = λ q w f. absurd (let k = sym (ap (λ (o : Option (ReqState × Call)). holder (state_in o) (service_at (at no_rows) q).worker) (at-none q)) ∙ f in grind (arith, k));
+        held_by = λ q w f. absurd (let k = sym (ap (λ (o : Option (ReqState × CallRequest)). holder (state_in o) (service_at (at no_rows) q).worker) (at-none q)) ∙ f in grind (arith, k));
         faults = λ w. counts w;
         fault_for = tt;
         noted_for = λ w n f. absurd (no-at w n f);
@@ -51,7 +51,7 @@ new_side-keeps p rings table node workers ring none =
         awaited = tt;
         calls = λ t c f. absurd (no-at t c f);
         alone = λ t u c d f g s. absurd (no-at t c f);
-        live = λ q l. absurd (let k = sym (ap (λ (o : Option (ReqState × Call)). is_live (state_in o)) (at-none q)) ∙ l in grind (arith, k));
+        live = λ q l. absurd (let k = sym (ap (λ (o : Option (ReqState × CallRequest)). is_live (state_in o)) (at-none q)) ∙ l in grind (arith, k));
         replies = λ q. omega arith;
         fresh = λ q l. at-none q;
         not_replied = λ q r f. absurd (no-at q r f);

@@ -1,6 +1,6 @@
 -- Stores and instructions change no page's rights, and make and take away no page.
 use Rattle.hybrid_laws.proofs.memory.Written.{SameShape, shown_written}
-use Rattle.hybrid_laws.proofs.node.Primitives.{at-change, then}
+use Rattle.hybrid_laws.proofs.node.Primitives.{at-change}
 use Rattle.hybrid_model.specs.Run.{run_for}
 use Rattle.hybrid_model.specs.Sides.{Row}
 use Rattle.hybrid_model.specs.Spaces.{shown_memory, shown_row, written_back}

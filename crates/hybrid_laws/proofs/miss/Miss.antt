@@ -22,7 +22,7 @@ use Rattle.hybrid_model.specs.Pairs.{Here}
 use Rattle.hybrid_model.specs.Shown.{has_empty, serves_it, status_of}
 use Rattle.hybrid_model.specs.Sides.{Noted, Service, service_of, with_state}
 use Rattle.hybrid_model.specs.Tallies.{Reads, with_at}
-use Rattle.ikc_ring.specs.declared.Call.{Call}
+use Rattle.ikc_ring.specs.declared.CallRequest.{CallRequest}
 use Rattle.ikc_ring.specs.declared.Msg.TheVariants.{Fault}
 use Rattle.ikc_ring.specs.declared.Msg.{Msg}
 use Rattle.kernel_model.specs.Progress.{Progress, has_piece, is_ready, needed_access, next_kind, next_piece}
@@ -51,8 +51,8 @@ may-miss h q w e =
     record { below = grind (arith, nat_tests, a.0); request = c.0; no_pin = c.1; ready = rw s at b.1 }
 
 -- ---- requests
-module _ (worker_count : ℕ) (workers : Reads ℕ) (rows : Reads (ReqState × Call)) (services : Reads Service) (pins : Reads Pin) (waiting : List ℕ) (noted : Reads Noted) (rings : List (List Msg)) (bs : List Msg) (c : Served worker_count workers rows services pins waiting noted rings bs) (w q : ℕ) (call : Call) (serving : workers w ≡ Some q) (is : rows q ≡ Some (Held, call)) (no_pin : pins w ≡ None) (left : has_piece (service_at services q).progress ≡ true) where
-  abbrev rows' : Reads (ReqState × Call)
+module _ (worker_count : ℕ) (workers : Reads ℕ) (rows : Reads (ReqState × CallRequest)) (services : Reads Service) (pins : Reads Pin) (waiting : List ℕ) (noted : Reads Noted) (rings : List (List Msg)) (bs : List Msg) (c : Served worker_count workers rows services pins waiting noted rings bs) (w q : ℕ) (call : CallRequest) (serving : workers w ≡ Some q) (is : rows q ≡ Some (Held, call)) (no_pin : pins w ≡ None) (left : has_piece (service_at services q).progress ≡ true) where
+  abbrev rows' : Reads (ReqState × CallRequest)
   rows' = with_at rows q (Some (Faulted, call))
 
   abbrev fault : Msg

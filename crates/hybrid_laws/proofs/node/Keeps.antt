@@ -3,7 +3,7 @@ use Rattle.hybrid_laws.proofs.maps.Reading.{EachRing-map}
 use Rattle.hybrid_model.specs.Coherence.{AtMostInterrupt, CallsAgree, InterruptIs, IsPart, Messages, OfProcess, OnlyOwn, Owned, Placed, RequestIs, calls_it, is_live, is_of_place, of_place, place_in, state_at, tid_in}
 use Rattle.hybrid_model.specs.Sides.{Caller, Side, Round}
 use Rattle.hybrid_model.specs.Tallies.{Each, EachNumbered, EachRing, Reads}
-use Rattle.ikc_ring.specs.declared.Call.{Call}
+use Rattle.ikc_ring.specs.declared.CallRequest.{CallRequest}
 use Rattle.ikc_ring.specs.declared.Msg.TheVariants.{Ack, Clear, Request, Answer, Fault, Interrupt, Reply}
 use Rattle.ikc_ring.specs.declared.Msg.{Msg}
 use Rattle.kernel_model.specs.MemoryCalls.{closing_range, most_heap}
@@ -66,7 +66,7 @@ pub place-found : (k : ℕ) (o : Option Thread) → place_in k o ≡ true → (x
 place-found k None e = absurd (grind (arith, e))
 place-found k (Some x) e = (x, refl, grind (arith, nat_tests, e))
 
-module _ (rows : Reads (ReqState × Call)) (callers : Reads Caller) (threads threads' : Reads Thread)
+module _ (rows : Reads (ReqState × CallRequest)) (callers : Reads Caller) (threads threads' : Reads Thread)
     (stays : (u : ℕ) (c : Caller) → callers u ≡ Some c → (k : ℕ) → place_in k (threads' u) ≡ place_in k (threads u))
     (live : (q : ℕ) → is_live (state_at rows q) ≡ true → (c : Caller) × (callers (tid_in (rows q)) ≡ Some c)) where
   interrupt-stays : (next : ℕ) (m : Msg) → InterruptIs next rows threads m → InterruptIs next rows threads' m
@@ -82,7 +82,7 @@ module _ (rows : Reads (ReqState × Call)) (callers : Reads Caller) (threads thr
   interrupts-stay next rings h = EachRing-map (InterruptIs next rows threads) (InterruptIs next rows threads') rings (interrupt-stays next) h
 
   place-same : (k : ℕ) (m : Msg) → RequestIs rows m → is_of_place threads' k m ≡ is_of_place threads k m
-  place-same k (Request c) h = let l = live c.q.0 (rw h refl) in stays c.tid.0 l.0 (sym (ap (λ (o : Option (ReqState × Call)). callers (tid_in o)) h) ∙ l.1) k
+  place-same k (Request c) h = let l = live c.q.0 (rw h refl) in stays c.tid.0 l.0 (sym (ap (λ (o : Option (ReqState × CallRequest)). callers (tid_in o)) h) ∙ l.1) k
   place-same k (Interrupt n place) h = refl
   place-same k (Clear r) h = refl
   place-same k (Answer w i n row) h = refl

@@ -30,7 +30,7 @@ use Rattle.hybrid_model.specs.Shown.{shown_born, shown_call, shown_here, status_
 use Rattle.hybrid_model.specs.Sides.{Noted, Service, Side, service_of, with_service, with_state, Book, LinuxSide, Caller}
 use Rattle.hybrid_model.specs.Spaces.{shown_memory}
 use Rattle.hybrid_model.specs.Tallies.{Reads, counted, sum_rings, tally, with_at}
-use Rattle.ikc_ring.specs.declared.Call.{Call}
+use Rattle.ikc_ring.specs.declared.CallRequest.{CallRequest}
 use Rattle.ikc_ring.specs.declared.Msg.TheVariants.{Ack, Answer, Clear, Fault, Interrupt, Reply, Request}
 use Rattle.ikc_ring.specs.declared.Msg.{Msg}
 use Rattle.kernel_model.specs.Nodes.{set_files}
@@ -62,8 +62,8 @@ may-park h q w e =
     record { below = grind (arith, nat_tests, a.0); request = c.0; no_pin = c.1; not_ready = rw s at b.1 }
 
 -- ---- the worker leaves a request that is Parked
-module _ (worker_count : ℕ) (workers : Reads ℕ) (rows : Reads (ReqState × Call)) (services : Reads Service) (pins : Reads Pin) (waiting : List ℕ) (noted : Reads Noted) (rings : List (List Msg)) (bs : List Msg) (c : Served worker_count workers rows services pins waiting noted rings bs) (w q : ℕ) (call : Call) (serving : workers w ≡ Some q) (is : rows q ≡ Some (Held, call)) (no_pin : pins w ≡ None) where
-  abbrev rows' : Reads (ReqState × Call)
+module _ (worker_count : ℕ) (workers : Reads ℕ) (rows : Reads (ReqState × CallRequest)) (services : Reads Service) (pins : Reads Pin) (waiting : List ℕ) (noted : Reads Noted) (rings : List (List Msg)) (bs : List Msg) (c : Served worker_count workers rows services pins waiting noted rings bs) (w q : ℕ) (call : CallRequest) (serving : workers w ≡ Some q) (is : rows q ≡ Some (Held, call)) (no_pin : pins w ≡ None) where
+  abbrev rows' : Reads (ReqState × CallRequest)
   rows' = with_at rows q (Some (Parked, call))
 
   abbrev workers' : Reads ℕ

@@ -24,7 +24,7 @@ use Rattle.hybrid_model.specs.Shown.{shown_born, shown_call, shown_here}
 use Rattle.hybrid_model.specs.Sides.{Caller, Round, Row, Side, state_in}
 use Rattle.hybrid_model.specs.Spaces.{freed, freed_rows, insert_frame, shown_memory, shown_row}
 use Rattle.hybrid_model.specs.Tallies.{EachNumbered, EachRing, Reads}
-use Rattle.ikc_ring.specs.declared.Call.{Call}
+use Rattle.ikc_ring.specs.declared.CallRequest.{CallRequest}
 use Rattle.ikc_ring.specs.declared.Msg.{Msg}
 use Rattle.kernel_model.specs.Nodes.{Node, Process, Sleeper, Thread, change_process, is_called, is_dying, is_living, process_of, thread_of}
 use Rattle.kernel_model.specs.SignalSets.{with_signal}
@@ -137,10 +137,10 @@ module _ (p : ℕ) (q : Pid) (h : Here) (m : may_here (Events.Reap q) h ≡ true
     pub no-request : (x : ℕ) → at h.side.book.rows x ≡ None
     no-request x = go (at h.side.book.rows x) refl
       where
-        go : (o : Option (ReqState × Call)) → at h.side.book.rows x ≡ o → at h.side.book.rows x ≡ None
+        go : (o : Option (ReqState × CallRequest)) → at h.side.book.rows x ≡ o → at h.side.book.rows x ≡ None
         go None e = e
         go (Some r) e =
-            let l : is_live (state_at (at h.side.book.rows) x) ≡ true = ap (λ (o : Option (ReqState × Call)). is_live (state_in o)) e ∙ k.answered.not_replied x r e in
+            let l : is_live (state_at (at h.side.book.rows) x) ≡ true = ap (λ (o : Option (ReqState × CallRequest)). is_live (state_in o)) e ∙ k.answered.not_replied x r e in
             let c = k.answered.live x l in
             let n = no-caller (tid_in (at h.side.book.rows x)) in
             absurd (let d = sym (ap (calls_it x) n) ∙ c in grind (arith, d))
@@ -153,7 +153,7 @@ module _ (p : ℕ) (q : Pid) (h : Here) (m : may_here (Events.Reap q) h ≡ true
         go (Some x) e =
             let a = k.served.workers_hold v x e in
             let n = no-request x in
-            absurd (let b = sym (ap (λ (o : Option (ReqState × Call)). holder (state_in o) (service_at (at h.side.linux.services) x).worker) n) ∙ a in grind (arith, b))
+            absurd (let b = sym (ap (λ (o : Option (ReqState × CallRequest)). holder (state_in o) (service_at (at h.side.linux.services) x).worker) n) ∙ a in grind (arith, b))
 
     pub no-pinned : (v : ℕ) → at h.side.linux.pins v ≡ None
     no-pinned v = go (at h.side.linux.pins v) refl

@@ -6,7 +6,7 @@ use Rattle.hybrid_model.specs.Coherence.{AnswerIsFor, FaultIsFor, IsForNext, Pin
 use Rattle.hybrid_model.specs.Workers.{state_if}
 use Rattle.hybrid_model.specs.Sides.{Noted, Service, Side, service_of, with_service, with_state}
 use Rattle.hybrid_model.specs.Tallies.{Reads, counted, sum_rings, tally, with_at}
-use Rattle.ikc_ring.specs.declared.Call.{Call}
+use Rattle.ikc_ring.specs.declared.CallRequest.{CallRequest}
 use Rattle.ikc_ring.specs.declared.Msg.TheVariants.{Ack, Clear, Fault, Request, Answer, Interrupt, Reply}
 use Rattle.ikc_ring.specs.declared.Msg.{Msg}
 use Rattle.kernel_model.specs.Nodes.{Node}
@@ -19,17 +19,17 @@ use Rattle.std.proofs.Common.{ap, arith, refl, subst, sym, ◌∙◌}
 use Rattle.std.proofs.lemmas.Bool.Decides.{nat_tests}
 use Rattle.std.specs.Prelude.{Bool, List, None, Option, Some, false, true, ℕ, ℤ, ◌+◌, ◌==◌, ◌≡◌, ◌≢◌}
 
-pub held-row : (rows : Reads (ReqState × Call)) (q : ℕ) → state_at rows q ≡ Held → (call : Call) × (rows q ≡ Some (Held, call))
+pub held-row : (rows : Reads (ReqState × CallRequest)) (q : ℕ) → state_at rows q ≡ Held → (call : CallRequest) × (rows q ≡ Some (Held, call))
 held-row rows q f = go (rows q) refl
   where
-    go : (o : Option (ReqState × Call)) → rows q ≡ o → (call : Call) × (rows q ≡ Some (Held, call))
+    go : (o : Option (ReqState × CallRequest)) → rows q ≡ o → (call : CallRequest) × (rows q ≡ Some (Held, call))
     go None e = absurd (let k = rw e at f in grind (arith, k))
     go (Some r) e = let k : r.0 ≡ Held = rw e at f in (r.1, e ∙ ap (λ s. Some (s, r.1)) k)
 
 -- a request that a worker steps: Held before, and Held or Ended after
-module _ (worker_count : ℕ) (workers : Reads ℕ) (rows : Reads (ReqState × Call)) (services : Reads Service) (pins : Reads Pin) (waiting : List ℕ) (noted : Reads Noted) (rings : List (List Msg)) (bs : List Msg) (c : Served worker_count workers rows services pins waiting noted rings bs) (w q : ℕ) (call : Call) (serving : workers w ≡ Some q) (is : rows q ≡ Some (Held, call)) (pins' : Reads Pin) (others_pins : (v : ℕ) → v ≢ w → pins' v ≡ pins v) (now : ReqState) (k : Service)
+module _ (worker_count : ℕ) (workers : Reads ℕ) (rows : Reads (ReqState × CallRequest)) (services : Reads Service) (pins : Reads Pin) (waiting : List ℕ) (noted : Reads Noted) (rings : List (List Msg)) (bs : List Msg) (c : Served worker_count workers rows services pins waiting noted rings bs) (w q : ℕ) (call : CallRequest) (serving : workers w ≡ Some q) (is : rows q ≡ Some (Held, call)) (pins' : Reads Pin) (others_pins : (v : ℕ) → v ≢ w → pins' v ≡ pins v) (now : ReqState) (k : Service)
     (not_posted : is_posted now ≡ 0) (not_waiting : is_waiting now ≡ 0) (not_faulted : is_faulted now ≡ 0) (fetched : is_fetched now ≡ true) (held : holder now w ≡ Some w) (same_worker : k.worker ≡ (service_at services q).worker) where
-  abbrev rows' : Reads (ReqState × Call)
+  abbrev rows' : Reads (ReqState × CallRequest)
   rows' = with_at rows q (Some (now, call))
 
   abbrev services' : Reads Service
@@ -102,7 +102,7 @@ state-facts None w = (refl, refl, refl, refl, refl, refl)
 state-facts (Some a) w = (refl, refl, refl, refl, refl, refl)
 
 -- ---- a worker without a pin steps its request
-module _ (p : ℕ) (side : Side) (node : Node) (worker_count : ℕ) (ring_of : ℕ → ℕ) (h : OfProcess p side node worker_count ring_of) (w q : ℕ) (call : Call) (serving : at side.linux.workers w ≡ Some q) (is : at side.book.rows q ≡ Some (Held, call)) (no_pin : at side.linux.pins w ≡ None) (now : ReqState) (k : Service)
+module _ (p : ℕ) (side : Side) (node : Node) (worker_count : ℕ) (ring_of : ℕ → ℕ) (h : OfProcess p side node worker_count ring_of) (w q : ℕ) (call : CallRequest) (serving : at side.linux.workers w ≡ Some q) (is : at side.book.rows q ≡ Some (Held, call)) (no_pin : at side.linux.pins w ≡ None) (now : ReqState) (k : Service)
     (not_posted : is_posted now ≡ 0) (not_waiting : is_waiting now ≡ 0) (not_faulted : is_faulted now ≡ 0) (fetched : is_fetched now ≡ true) (held : holder now w ≡ Some w) (live : is_live now ≡ true) (same_worker : k.worker ≡ (service_of side.linux.services q).worker) (same_mark : k.interrupted ≡ (service_of side.linux.services q).interrupted) where
   pub keeps_step : OfProcess p (record side { linux = with_service side.linux q k; book = with_state side.book q now }) node worker_count ring_of
   keeps_step =

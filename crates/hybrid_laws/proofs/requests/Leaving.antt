@@ -4,7 +4,7 @@ use Rattle.hybrid_laws.proofs.rings.Placing.{EachNumbered-map}
 use Rattle.hybrid_model.specs.Coherence.{InOwnRing, IsPart, Messages, OnlyOwn, Placed, ReplyIsAwaited, is_live, is_posted, of_place, replies_to, state_at, tid_in}
 use Rattle.hybrid_model.specs.Sides.{Caller}
 use Rattle.hybrid_model.specs.Tallies.{Each, Reads, tally}
-use Rattle.ikc_ring.specs.declared.Call.{Call}
+use Rattle.ikc_ring.specs.declared.CallRequest.{CallRequest}
 use Rattle.ikc_ring.specs.declared.Msg.TheVariants.{Ack, Answer, Clear, Fault, Interrupt, Reply, Request}
 use Rattle.ikc_ring.specs.declared.Msg.{Msg}
 use Rattle.kernel_model.specs.Nodes.{Thread}
@@ -13,7 +13,7 @@ use Rattle.std.proofs.Common.{ap, arith, refl, sym, ◌∙◌}
 use Rattle.std.proofs.lemmas.Bool.Decides.{nat_tests}
 use Rattle.std.specs.Prelude.{List, Some, [], true, ℕ, ◌∷◌, ◌≡◌}
 
-module _ (rows rows' : Reads (ReqState × Call)) (posted-same : (p : ℕ) → is_posted (state_at rows' p) ≡ is_posted (state_at rows p)) (live-before : (p : ℕ) → is_live (state_at rows' p) ≡ true → is_live (state_at rows p) ≡ true) (tid-same : (p : ℕ) → is_live (state_at rows' p) ≡ true → tid_in (rows' p) ≡ tid_in (rows p)) where
+module _ (rows rows' : Reads (ReqState × CallRequest)) (posted-same : (p : ℕ) → is_posted (state_at rows' p) ≡ is_posted (state_at rows p)) (live-before : (p : ℕ) → is_live (state_at rows' p) ≡ true → is_live (state_at rows p) ≡ true) (tid-same : (p : ℕ) → is_live (state_at rows' p) ≡ true → tid_in (rows' p) ≡ tid_in (rows p)) where
   part-states : (ms : List Msg) → IsPart (state_at rows) ms → IsPart (state_at rows') ms
   part-states [] h = h
   part-states (Request c ∷ ms) h = h
@@ -43,7 +43,7 @@ module _ (rows rows' : Reads (ReqState × Call)) (posted-same : (p : ℕ) → is
   }
 
 -- no Reply of a number that stands in the book is under way
-pub no-reply : (rows : Reads (ReqState × Call)) (callers : Reads Caller) (q : ℕ) (r : ReqState × Call) → rows q ≡ Some r → (bs : List Msg) → Each (ReplyIsAwaited rows callers) bs → tally (replies_to q) bs ≡ 0
+pub no-reply : (rows : Reads (ReqState × CallRequest)) (callers : Reads Caller) (q : ℕ) (r : ReqState × CallRequest) → rows q ≡ Some r → (bs : List Msg) → Each (ReplyIsAwaited rows callers) bs → tally (replies_to q) bs ≡ 0
 no-reply rows callers q r is [] h = refl
 no-reply rows callers q r is (Reply n code ∷ bs) h = let g = h.0.gone in let t = no-reply rows callers q r is bs h.1 in grind (arith, nat_tests, g, is, t)
 no-reply rows callers q r is (Request c ∷ bs) h = omega (arith, no-reply rows callers q r is bs h.1)

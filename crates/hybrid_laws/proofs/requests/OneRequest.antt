@@ -6,7 +6,7 @@ use Rattle.hybrid_laws.proofs.rings.InRings.{InRings, in_rings, rings-services, 
 use Rattle.hybrid_model.specs.Coherence.{Answered, Covered, OfProcess, Rounded, Served, is_live, is_posted, service_at}
 use Rattle.hybrid_model.specs.Sides.{Book, LinuxSide, Side, with_state}
 use Rattle.hybrid_model.specs.Tallies.{Reads, with_at}
-use Rattle.ikc_ring.specs.declared.Call.{Call}
+use Rattle.ikc_ring.specs.declared.CallRequest.{CallRequest}
 use Rattle.ikc_ring.specs.declared.Msg.{Msg}
 use Rattle.kernel_model.specs.Nodes.{Node, set_files}
 use Rattle.mck_word.specs.Maps.{at}
@@ -14,8 +14,8 @@ use Rattle.request_book.specs.declared.ReqState.{ReqState}
 use Rattle.std.specs.Prelude.{List, Some, true, ℕ, ◌≡◌}
 
 module _ (p : ℕ) (side : Side) (node : Node) (worker_count : ℕ) (ring_of : ℕ → ℕ) (h : OfProcess p side node worker_count ring_of)
-    (q : ℕ) (was now : ReqState) (call : Call) (is : at side.book.rows q ≡ Some (was, call)) (live : is_live was ≡ true) (still : is_live now ≡ true) (a : is_posted was ≡ 0) (b : is_posted now ≡ 0) (linux : LinuxSide) (waiting : List ℕ) where
-  abbrev pub rows_now : Reads (ReqState × Call)
+    (q : ℕ) (was now : ReqState) (call : CallRequest) (is : at side.book.rows q ≡ Some (was, call)) (live : is_live was ≡ true) (still : is_live now ≡ true) (a : is_posted was ≡ 0) (b : is_posted now ≡ 0) (linux : LinuxSide) (waiting : List ℕ) where
+  abbrev pub rows_now : Reads (ReqState × CallRequest)
   rows_now = with_at (at side.book.rows) q (Some (now, call))
 
   abbrev pub book_now : Book

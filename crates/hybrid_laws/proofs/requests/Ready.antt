@@ -1,7 +1,7 @@
 -- A call that is ready, or that isn't, has a piece left.
-use Rattle.kernel_model.specs.Plans as CallPhases
+use Rattle.kernel_model.specs.CallPhases as CallPhases
 use Rattle.file_model.specs.Files.{Files}
-use Rattle.kernel_model.specs.Plans.{Phase}
+use Rattle.kernel_model.specs.CallPhases.{Phase}
 use Rattle.kernel_model.specs.Progress.{Progress, has_piece, is_ready, kind_of_phase, next_kind}
 use Rattle.std.proofs.Common.{arith, refl}
 use Rattle.std.specs.Prelude.{Bool, false, get_or, true, ◌≡◌}

@@ -4,7 +4,7 @@ use Rattle.hybrid_model.specs.Coherence.{AnswerIsFor, Answered, FaultIsFor, IsFo
 use Rattle.hybrid_model.specs.Rings.{post, ring, with_ring}
 use Rattle.hybrid_model.specs.Sides.{Noted, Service, Caller, state_in}
 use Rattle.hybrid_model.specs.Tallies.{Reads, with_at, Each, EachRing}
-use Rattle.ikc_ring.specs.declared.Call.{Call}
+use Rattle.ikc_ring.specs.declared.CallRequest.{CallRequest}
 use Rattle.ikc_ring.specs.declared.Msg.TheVariants.{Request, Clear, Answer, Interrupt, Reply, Ack, Fault}
 use Rattle.ikc_ring.specs.declared.Msg.{Msg}
 use Rattle.isa_model.specs.Memory.{allows}
@@ -21,7 +21,7 @@ pub IsForNext-keeps : (workers workers' : Reads ℕ) (services services' : Reads
 IsForNext-keeps workers workers' services services' w i a k e f =
     record { number = k.number; serves = e; left = ap has_piece f ∙ k.left; page_is = ap (λ x. (next_piece x).page) f ∙ k.page_is; access_is = ap needed_access f ∙ k.access_is }
 
-pub PinServes-keeps : (workers workers' : Reads ℕ) (rows rows' : Reads (ReqState × Call)) (services services' : Reads Service) (w : ℕ) (x : Pin) (k : PinServes workers rows services w x) → workers' w ≡ Some k.number
+pub PinServes-keeps : (workers workers' : Reads ℕ) (rows rows' : Reads (ReqState × CallRequest)) (services services' : Reads Service) (w : ℕ) (x : Pin) (k : PinServes workers rows services w x) → workers' w ≡ Some k.number
     → is_faulted (state_at rows' k.number) ≡ 0 → (x.copied ≡ false → (state_at rows' k.number ≡ state_at rows k.number) × ((service_at services' k.number).progress ≡ (service_at services k.number).progress)) → PinServes workers' rows' services' w x
 PinServes-keeps workers workers' rows rows' services services' w x k e n f =
     record {
@@ -64,8 +64,8 @@ module _ (workers workers' : Reads ℕ) (services services' : Reads Service) (sa
   noted-keep noted h = λ v n e. same v n.0 n.1 (h v n e)
 
 -- ---- a request of the book gets another state, and its call stays
-module _ (rows : Reads (ReqState × Call)) (q : ℕ) (was now : ReqState) (call : Call) (is : rows q ≡ Some (was, call)) (live : is_live was ≡ true) (still : is_live now ≡ true) where
-  abbrev rows' : Reads (ReqState × Call)
+module _ (rows : Reads (ReqState × CallRequest)) (q : ℕ) (was now : ReqState) (call : CallRequest) (is : rows q ≡ Some (was, call)) (live : is_live was ≡ true) (still : is_live now ≡ true) where
+  abbrev rows' : Reads (ReqState × CallRequest)
   rows' = with_at rows q (Some (now, call))
 
   awaited-state : (callers : Reads Caller) (m : Msg) → ReplyIsAwaited rows callers m → ReplyIsAwaited rows' callers m
@@ -109,7 +109,7 @@ module _ (rows : Reads (ReqState × Call)) (q : ℕ) (was now : ReqState) (call 
   }
 
 -- ---- the Requests in the rings, where a request that isn't Posted gets another state
-module _ (rows : Reads (ReqState × Call)) (q : ℕ) (was : ReqState) (call : Call) (is : rows q ≡ Some (was, call)) (not_posted : is_posted was ≡ 0) (new : Option (ReqState × Call)) where
+module _ (rows : Reads (ReqState × CallRequest)) (q : ℕ) (was : ReqState) (call : CallRequest) (is : rows q ≡ Some (was, call)) (not_posted : is_posted was ≡ 0) (new : Option (ReqState × CallRequest)) where
   asked-one : (m : Msg) → RequestIs rows m → RequestIs (with_at rows q new) m
   asked-one (Request c) h = grind (arith, nat_tests, is, h, not_posted)
   asked-one (Clear r) h = tt
@@ -123,7 +123,7 @@ module _ (rows : Reads (ReqState × Call)) (q : ℕ) (was : ReqState) (call : Ca
   asked-state rings h = EachRing-map (RequestIs rows) (RequestIs (with_at rows q new)) rings asked-one h
 
 -- ---- the Interrupts in the rings, where the thread of each live request stays
-module _ (rows rows' : Reads (ReqState × Call)) (threads : Reads Thread) (next : ℕ) (live-same : (p : ℕ) → is_live (state_at rows' p) ≡ true → is_live (state_at rows p) ≡ true) (tid-same : (p : ℕ) → is_live (state_at rows' p) ≡ true → tid_in (rows' p) ≡ tid_in (rows p)) where
+module _ (rows rows' : Reads (ReqState × CallRequest)) (threads : Reads Thread) (next : ℕ) (live-same : (p : ℕ) → is_live (state_at rows' p) ≡ true → is_live (state_at rows p) ≡ true) (tid-same : (p : ℕ) → is_live (state_at rows' p) ≡ true → tid_in (rows' p) ≡ tid_in (rows p)) where
   interrupt-one : (m : Msg) → InterruptIs next rows threads m → InterruptIs next rows' threads m
   interrupt-one (Interrupt n place) h = (h.0, h.1, λ u. ap (λ t. place_in place (threads t)) (tid-same n.0 u) ∙ h.2 (live-same n.0 u))
   interrupt-one (Request c) h = tt

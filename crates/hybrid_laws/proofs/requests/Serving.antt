@@ -2,7 +2,7 @@
 use Rattle.hybrid_laws.proofs.maps.Tests.{both, no-none, some-is}
 use Rattle.hybrid_model.specs.Workers.{has_pin, holds, is_ended_request, is_free_to_act, is_parked, is_held}
 use Rattle.hybrid_model.specs.Sides.{Book, LinuxSide, state_of, serves}
-use Rattle.ikc_ring.specs.declared.Call.{Call}
+use Rattle.ikc_ring.specs.declared.CallRequest.{CallRequest}
 use Rattle.mck_word.specs.Maps.{at}
 use Rattle.request_book.specs.declared.ReqState.TheVariants.{Faulted, Held, Parked, Replied, Waiting, Ended, Posted}
 use Rattle.request_book.specs.declared.ReqState.{ReqState}
@@ -12,16 +12,16 @@ use Rattle.std.specs.Prelude.{Bool, None, Option, Some, false, is_some, not, tru
 -- the worker serves that request, which stands in the book in that state
 pub record Serves (l : LinuxSide) (b : Book) (w : ℕ) (s : ReqState) : Type 0 where
   pub number : ℕ
-  pub call : Call
+  pub call : CallRequest
   pub serving : at l.workers w ≡ Some number
   pub is : at b.rows number ≡ Some (s, call)
 
 -- a test that none but one state passes
 module _ (test : ReqState → Bool) (s : ReqState) (only : (x : ReqState) → test x ≡ true → x ≡ s) (not_replied : test Replied ≡ false) (l : LinuxSide) (b : Book) (w : ℕ) where
-  in-book : (q : ℕ) → test (state_of b q) ≡ true → (call : Call) × (at b.rows q ≡ Some (s, call))
+  in-book : (q : ℕ) → test (state_of b q) ≡ true → (call : CallRequest) × (at b.rows q ≡ Some (s, call))
   in-book q e = go (at b.rows q) refl
     where
-      go : (o : Option (ReqState × Call)) → at b.rows q ≡ o → (call : Call) × (at b.rows q ≡ Some (s, call))
+      go : (o : Option (ReqState × CallRequest)) → at b.rows q ≡ o → (call : CallRequest) × (at b.rows q ≡ Some (s, call))
       go None f = absurd (let k = rw f at e in grind (arith, k, not_replied))
       go (Some r) f = let k = rw f at e in (r.1, f ∙ ap (λ x. Some (x, r.1)) (only r.0 k))
 
@@ -69,5 +69,5 @@ module _ (l : LinuxSide) (b : Book) (w : ℕ) where
   pub free-to-act : is_free_to_act l b w ≡ true → Serves l b w Held × (at l.pins w ≡ None)
   free-to-act e = let a = both (holds l b w) (not (has_pin l w)) e in (holds-it a.0, no-none (at l.pins w) a.1)
 
-pub parked-in : (l : LinuxSide) (b : Book) (q : ℕ) → is_parked (state_of b q) ≡ true → (call : Call) × (at b.rows q ≡ Some (Parked, call))
+pub parked-in : (l : LinuxSide) (b : Book) (q : ℕ) → is_parked (state_of b q) ≡ true → (call : CallRequest) × (at b.rows q ≡ Some (Parked, call))
 parked-in l b q e = in-book is_parked Parked parked-only refl l b q q e

@@ -5,7 +5,7 @@ use Rattle.hybrid_model.specs.Pairs.{Here}
 use Rattle.hybrid_model.specs.Shown.{has_empty, reply_code, serves_it, shown_born, shown_here, status_by, status_in, status_of, shown_own}
 use Rattle.hybrid_model.specs.Sides.{Service, Side, Turn, call_in, no_service, state_in}
 use Rattle.hybrid_model.specs.Tallies.{Reads, tally, with_at}
-use Rattle.ikc_ring.specs.declared.Call.{Call}
+use Rattle.ikc_ring.specs.declared.CallRequest.{CallRequest}
 use Rattle.ikc_ring.specs.declared.Msg.TheVariants.{Ack, Answer, Clear, Fault, Interrupt, Reply, Request}
 use Rattle.ikc_ring.specs.declared.Msg.{Msg}
 use Rattle.mck_word.specs.Maps.{Map}
@@ -14,7 +14,7 @@ use Rattle.std.proofs.Common.{ap, arith, refl, sym, ◌∙◌}
 use Rattle.std.proofs.lemmas.Bool.Decides.{nat_tests}
 use Rattle.std.specs.Prelude.{Bool, List, None, Option, Some, [], false, if◌then◌else◌, length, true, unwrap_or, ℕ, ℤ, ◌++◌, ◌==◌, ◌∷◌, ◌≡◌}
 
-module _ (rows : Reads (ReqState × Call)) (services services' : Reads Service) (workers workers' : Reads ℕ) (rings rings' : List (List Msg)) (bs bs' : List Msg) (q : ℕ) (new : Option (ReqState × Call)) where
+module _ (rows : Reads (ReqState × CallRequest)) (services services' : Reads Service) (workers workers' : Reads ℕ) (rings rings' : List (List Msg)) (bs bs' : List Msg) (q : ℕ) (new : Option (ReqState × CallRequest)) where
   pub status-one : status_in (state_in new) (call_in new) (unwrap_or (services' q) no_service) (has_empty workers' q rings') (reply_code q bs') ≡ status_by rows services workers rings bs q
       → ((x : ℕ) → (x == q) ≡ false → unwrap_or (services' x) no_service ≡ unwrap_or (services x) no_service)
       → ((x : ℕ) → (x == q) ≡ false → has_empty workers' x rings' ≡ has_empty workers x rings)

@@ -4,7 +4,7 @@ use Rattle.hybrid_model.specs.Coherence.{OfProcess, calls_it, is_live}
 use Rattle.hybrid_model.specs.Answer.{thread_served}
 use Rattle.hybrid_model.specs.Shown.{shown_call, status_of}
 use Rattle.hybrid_model.specs.Sides.{Caller, Side, call_in, call_of}
-use Rattle.ikc_ring.specs.declared.Call.{Call}
+use Rattle.ikc_ring.specs.declared.CallRequest.{CallRequest}
 use Rattle.kernel_model.specs.Nodes.{Node, Thread}
 use Rattle.kernel_model.specs.OneKernel.{CallStatus}
 use Rattle.mck_word.specs.MapLaws.{at-collect}
@@ -14,7 +14,7 @@ use Rattle.std.proofs.Common.{ap, arith, refl, sym, ◌∙◌}
 use Rattle.std.proofs.lemmas.Bool.Decides.{nat_tests}
 use Rattle.std.specs.Prelude.{Bool, None, Option, Some, false, true, ℕ, ◌==◌, ◌≡◌, ◌≢◌, unwrap_or}
 
-module _ (p : ℕ) (side : Side) (node : Node) (worker_count : ℕ) (ring_of : ℕ → ℕ) (h : OfProcess p side node worker_count ring_of) (q : ℕ) (was : ReqState) (call : Call) (is : at side.book.rows q ≡ Some (was, call)) (live : is_live was ≡ true) where
+module _ (p : ℕ) (side : Side) (node : Node) (worker_count : ℕ) (ring_of : ℕ → ℕ) (h : OfProcess p side node worker_count ring_of) (q : ℕ) (was : ReqState) (call : CallRequest) (is : at side.book.rows q ≡ Some (was, call)) (live : is_live was ≡ true) where
   -- the thread that calls
   pub the-caller : (c : Caller) × (at side.lwk.callers call.tid.0 ≡ Some c) × (c.request ≡ q)
   the-caller = go (at side.lwk.callers call.tid.0) refl (rw is at (h.answered.live q (rw is live)))
@@ -41,5 +41,5 @@ module _ (p : ℕ) (side : Side) (node : Node) (worker_count : ℕ) (ring_of : �
       other u d n e true f = absurd (n (h.answered.alone u call.tid.0 d the-caller.0 e the-caller.1 (let g : d.request ≡ q = grind (arith, nat_tests, f) in g ∙ sym the-caller.2)))
 
 -- the thread whose request a worker serves
-pub thread-served-is : (s : Side) (w n : ℕ) (was : ReqState) (call : Call) → at s.linux.workers w ≡ Some n → at s.book.rows n ≡ Some (was, call) → thread_served s w ≡ call.tid.0
-thread-served-is s w n was call e f = ap (λ (o : Option ℕ). (call_of s.book (unwrap_or o 0)).tid.0) e ∙ ap (λ (o : Option (ReqState × Call)). (call_in o).tid.0) f
+pub thread-served-is : (s : Side) (w n : ℕ) (was : ReqState) (call : CallRequest) → at s.linux.workers w ≡ Some n → at s.book.rows n ≡ Some (was, call) → thread_served s w ≡ call.tid.0
+thread-served-is s w n was call e f = ap (λ (o : Option ℕ). (call_of s.book (unwrap_or o 0)).tid.0) e ∙ ap (λ (o : Option (ReqState × CallRequest)). (call_in o).tid.0) f

@@ -4,7 +4,7 @@ use Rattle.hybrid_laws.proofs.requests.Showing.{has_empty-same}
 use Rattle.hybrid_model.specs.Workers.{answer_if, state_if, stepped_service}
 use Rattle.hybrid_model.specs.Shown.{has_empty, reply_code, serves_it, status_in, status_of}
 use Rattle.hybrid_model.specs.Sides.{Row, Service, Side, call_in, service_of, state_in, with_state}
-use Rattle.ikc_ring.specs.declared.Call.{Call}
+use Rattle.ikc_ring.specs.declared.CallRequest.{CallRequest}
 use Rattle.kernel_model.specs.Progress.{After}
 use Rattle.kernel_model.specs.Steps.{status_after, status_if}
 use Rattle.mck_word.specs.MapLaws.{at-put}
@@ -15,7 +15,7 @@ use Rattle.std.proofs.Common.{ap, arith, refl, ◌∙◌}
 use Rattle.std.proofs.lemmas.Bool.Decides.{nat_tests}
 use Rattle.std.specs.Prelude.{Bool, List, None, Option, Some, false, true, ℕ, ℤ, ◌==◌, ◌≡◌}
 
-module _ (side : Side) (q : ℕ) (was now : ReqState) (call : Call) (is : at side.book.rows q ≡ Some (was, call)) (mirror : Map Row) (pins : Map Pin) (workers : Map ℕ) (services : Map Service) (cleared : ℕ) (waiting : List ℕ) where
+module _ (side : Side) (q : ℕ) (was now : ReqState) (call : CallRequest) (is : at side.book.rows q ≡ Some (was, call)) (mirror : Map Row) (pins : Map Pin) (workers : Map ℕ) (services : Map Service) (cleared : ℕ) (waiting : List ℕ) where
   abbrev pub stepped_side : Side
   stepped_side = record side { linux = record { mirror = mirror; pins = pins; workers = workers; services = services; cleared = cleared }; book = record (with_state side.book q now) { waiting = waiting } }
 
@@ -42,7 +42,7 @@ pub put-other : {V : Type 0} (m : Map V) (q : ℕ) (k : V) (x : ℕ) → (x == q
 put-other m q k x e = at-put m q k x ∙ rw e refl
 
 -- a request of a call that goes on or ends shows the status after the step
-pub status-if : (a : After) (call : Call) (k : Service) (empty : Bool) (code : ℤ) → status_in (state_if a.ended) call (stepped_service k a) empty code ≡ status_after a
+pub status-if : (a : After) (call : CallRequest) (k : Service) (empty : Bool) (code : ℤ) → status_in (state_if a.ended) call (stepped_service k a) empty code ≡ status_after a
 status-if a call k empty code = own a.ended
   where
     own : (o : Option ℤ) → status_in (state_if o) call (record k { progress = a.progress; answer = answer_if o k.answer }) empty code ≡ status_if a.progress o

@@ -4,7 +4,7 @@ use Rattle.hybrid_laws.proofs.maps.Reading.{Each-push, tally-push}
 use Rattle.hybrid_model.specs.Coherence.{Answered, ReplyIsAwaited, Rounded, Served, acks, replies_to}
 use Rattle.hybrid_model.specs.Sides.{Caller, Noted, Row, Service, Round}
 use Rattle.hybrid_model.specs.Tallies.{Reads, tally}
-use Rattle.ikc_ring.specs.declared.Call.{Call}
+use Rattle.ikc_ring.specs.declared.CallRequest.{CallRequest}
 use Rattle.ikc_ring.specs.declared.Msg.{Msg}
 use Rattle.page_pins.specs.declared.Pin.{Pin}
 use Rattle.request_book.specs.declared.ReqState.{ReqState}
@@ -12,7 +12,7 @@ use Rattle.std.proofs.Common.{ap, arith, refl, ◌∙◌}
 use Rattle.std.proofs.lemmas.Bool.Decides.{nat_tests}
 use Rattle.std.specs.Prelude.{Bool, List, Option, Some, [], false, true, ℕ, ◌++◌, ◌==◌, ◌∷◌, ◌≡◌, ◌≢◌}
 
-module _ (rows : Reads (ReqState × Call)) (callers : Reads Caller) (next : ℕ) (bs : List Msg) (m : Msg) (no_reply : (q : ℕ) → replies_to q m ≡ 0) (awaited : ReplyIsAwaited rows callers m) where
+module _ (rows : Reads (ReqState × CallRequest)) (callers : Reads Caller) (next : ℕ) (bs : List Msg) (m : Msg) (no_reply : (q : ℕ) → replies_to q m ≡ 0) (awaited : ReplyIsAwaited rows callers m) where
   same-count : (q : ℕ) → tally (replies_to q) (bs ++ m ∷ []) ≡ tally (replies_to q) bs
   same-count q = omega (arith, tally-push (replies_to q) bs m, no_reply q)
 
@@ -30,7 +30,7 @@ module _ (rows : Reads (ReqState × Call)) (callers : Reads Caller) (next : ℕ)
 pub Rounded-back : (round : Option Round) (mirror : Reads Row) (pins : Reads Pin) (begun cleared : ℕ) (rings : List (List Msg)) (bs : List Msg) (m : Msg) → acks m ≡ 0 → Rounded round mirror pins begun cleared rings bs → Rounded round mirror pins begun cleared rings (bs ++ m ∷ [])
 Rounded-back round mirror pins begun cleared rings bs m n c = record { clears_are = c.clears_are; acks_are = omega (arith, tally-push acks bs m, n, c.acks_are); clear_of = c.clear_of; fetched = c.fetched; outside = c.outside; mirror_outside = c.mirror_outside; pins_outside = c.pins_outside }
 
-module _ (worker_count : ℕ) (workers : Reads ℕ) (rows : Reads (ReqState × Call)) (services : Reads Service) (pins : Reads Pin) (waiting : List ℕ) (noted : Reads Noted) (rings : List (List Msg)) (bs : List Msg) (c : Served worker_count workers rows services pins waiting noted rings bs) where
+module _ (worker_count : ℕ) (workers : Reads ℕ) (rows : Reads (ReqState × CallRequest)) (services : Reads Service) (pins : Reads Pin) (waiting : List ℕ) (noted : Reads Noted) (rings : List (List Msg)) (bs : List Msg) (c : Served worker_count workers rows services pins waiting noted rings bs) where
   pub one-worker : (v w q : ℕ) → workers v ≡ Some q → workers w ≡ Some q → v ≡ w
   one-worker v w q e f = let a = c.workers_hold v q e in let b = c.workers_hold w q f in grind (arith, a, b)
 

@@ -6,7 +6,7 @@ use Rattle.hybrid_model.specs.Coherence.{Directions, InOwnRing, InterruptIs, Mar
 use Rattle.hybrid_model.specs.Rings.{ring, with_ring}
 use Rattle.hybrid_model.specs.Sides.{Caller, Service, Side}
 use Rattle.hybrid_model.specs.Tallies.{EachRing, Reads, with_at}
-use Rattle.ikc_ring.specs.declared.Call.{Call}
+use Rattle.ikc_ring.specs.declared.CallRequest.{CallRequest}
 use Rattle.ikc_ring.specs.declared.Msg.{Msg}
 use Rattle.kernel_model.specs.Nodes.{Node, Thread}
 use Rattle.mck_word.specs.Maps.{at}
@@ -16,7 +16,7 @@ use Rattle.std.proofs.lemmas.Bool.Decides.{nat_tests}
 use Rattle.std.specs.Prelude.{List, Some, [], false, true, ℕ, ◌++◌, ◌∷◌, ◌≡◌}
 
 -- the parts of a process that speak of the messages in its rings, beside those of its table, its round and its workers
-pub record InRings (rows : Reads (ReqState × Call)) (next : ℕ) (threads : Reads Thread) (ring_of : ℕ → ℕ) (callers : Reads Caller) (services : Reads Service) (rings : List (List Msg)) (bs : List Msg) : Type 0 where
+pub record InRings (rows : Reads (ReqState × CallRequest)) (next : ℕ) (threads : Reads Thread) (ring_of : ℕ → ℕ) (callers : Reads Caller) (services : Reads Service) (rings : List (List Msg)) (bs : List Msg) : Type 0 where
   pub asked : EachRing (RequestIs rows) rings
   pub interrupts : EachRing (InterruptIs next rows threads) rings
   pub directions : Directions rings bs
@@ -27,7 +27,7 @@ pub in_rings : {p : ℕ} {side : Side} {node : Node} {worker_count : ℕ} {ring_
     → InRings (at side.book.rows) side.book.next (at node.threads) ring_of (at side.lwk.callers) (at side.linux.services) side.to_linux side.to_lwk
 in_rings h = record { asked = h.asked; interrupts = h.interrupts; directions = h.directions; messages = h.messages; marked = h.marked }
 
-module _ (rows : Reads (ReqState × Call)) (next : ℕ) (threads : Reads Thread) (ring_of : ℕ → ℕ) (callers : Reads Caller) (services : Reads Service) (rings : List (List Msg)) (bs : List Msg) (h : InRings rows next threads ring_of callers services rings bs) where
+module _ (rows : Reads (ReqState × CallRequest)) (next : ℕ) (threads : Reads Thread) (ring_of : ℕ → ℕ) (callers : Reads Caller) (services : Reads Service) (rings : List (List Msg)) (bs : List Msg) (h : InRings rows next threads ring_of callers services rings bs) where
   -- a message of no place is taken
   pub rings-take : (r : ℕ) (m : Msg) (ms : List Msg) → ring r rings ≡ m ∷ ms → IsOfNone m → ((k : ℕ) → InOwnRing ring_of rows k m) → InRings rows next threads ring_of callers services (with_ring r ms rings) bs
   rings-take r m ms first none own = record {
@@ -47,7 +47,7 @@ module _ (rows : Reads (ReqState × Call)) (next : ℕ) (threads : Reads Thread)
   rings-services services' f = record { asked = h.asked; interrupts = h.interrupts; directions = h.directions; messages = h.messages; marked = Marked-services services services' callers rings f h.marked }
 
   -- a fetched request that is live gets another state
-  pub rings-state : (q : ℕ) (was now : ReqState) (call : Call) → rows q ≡ Some (was, call) → is_live was ≡ true → is_live now ≡ true → is_posted was ≡ 0 → is_posted now ≡ 0 → InRings (with_at rows q (Some (now, call))) next threads ring_of callers services rings bs
+  pub rings-state : (q : ℕ) (was now : ReqState) (call : CallRequest) → rows q ≡ Some (was, call) → is_live was ≡ true → is_live now ≡ true → is_posted was ≡ 0 → is_posted now ≡ 0 → InRings (with_at rows q (Some (now, call))) next threads ring_of callers services rings bs
   rings-state q was now call is live still a b = record {
     asked = asked-state rows q was call is a (Some (now, call)) rings h.asked;
     interrupts = interrupts-state rows (with_at rows q (Some (now, call))) threads next (λ p u. sym (live-state rows q was now call is live still p) ∙ u) (λ p u. tid-state rows q was now call is live still p) rings h.interrupts;

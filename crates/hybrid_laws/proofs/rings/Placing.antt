@@ -5,7 +5,7 @@ use Rattle.hybrid_model.specs.Pairs.{ring_of}
 use Rattle.hybrid_model.specs.Rings.{post, ring, with_ring}
 use Rattle.hybrid_model.specs.Sides.{Service, Caller}
 use Rattle.hybrid_model.specs.Tallies.{Reads, EachNumbered}
-use Rattle.ikc_ring.specs.declared.Call.{Call}
+use Rattle.ikc_ring.specs.declared.CallRequest.{CallRequest}
 use Rattle.ikc_ring.specs.declared.Msg.TheVariants.{Request, Clear, Answer, Interrupt, Reply, Ack, Fault}
 use Rattle.ikc_ring.specs.declared.Msg.{Msg}
 use Rattle.kernel_model.specs.Nodes.{Thread}
@@ -18,7 +18,7 @@ EachNumbered-map P Q r [] f h = tt
 EachNumbered-map P Q r (ms ∷ rs) f h = (f r ms h.0, EachNumbered-map P Q (suc r) rs f h.1)
 
 -- ---- a request gets another state
-module _ (rows rows' : Reads (ReqState × Call)) (posted-same : (p : ℕ) → is_posted (state_at rows' p) ≡ is_posted (state_at rows p)) (live-same : (p : ℕ) → is_live (state_at rows' p) ≡ is_live (state_at rows p)) (tid-same : (p : ℕ) → tid_in (rows' p) ≡ tid_in (rows p)) where
+module _ (rows rows' : Reads (ReqState × CallRequest)) (posted-same : (p : ℕ) → is_posted (state_at rows' p) ≡ is_posted (state_at rows p)) (live-same : (p : ℕ) → is_live (state_at rows' p) ≡ is_live (state_at rows p)) (tid-same : (p : ℕ) → tid_in (rows' p) ≡ tid_in (rows p)) where
   part-state : (ms : List Msg) → IsPart (state_at rows) ms → IsPart (state_at rows') ms
   part-state [] h = h
   part-state (Request c ∷ ms) h = h
@@ -59,7 +59,7 @@ of_place-push threads k (x ∷ ms) m n = go (is_of_place threads k x) (of_place-
     go true e = ap (λ ys. x ∷ ys) e
     go false e = e
 
-module _ (rows : Reads (ReqState × Call)) (threads : Reads Thread) (ring_of : ℕ → ℕ) (callers : Reads Caller) (m : Msg) (none : IsOfNone m) (own : (r : ℕ) → InOwnRing ring_of rows r m) where
+module _ (rows : Reads (ReqState × CallRequest)) (threads : Reads Thread) (ring_of : ℕ → ℕ) (callers : Reads Caller) (m : Msg) (none : IsOfNone m) (own : (r : ℕ) → InOwnRing ring_of rows r m) where
   placed-push : (r : ℕ) (ms : List Msg) → Placed rows threads ring_of r ms → Placed rows threads ring_of r (ms ++ m ∷ [])
   placed-push r ms h = record {
     parts = λ k. subst (IsPart (state_at rows)) (sym (of_place-push threads k ms m none)) (h.parts k);

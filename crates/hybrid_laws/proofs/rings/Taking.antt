@@ -4,7 +4,7 @@ use Rattle.hybrid_model.specs.Coherence.{AnswerCovered, AnswerIsFor, ClearIsOf, 
 use Rattle.hybrid_model.specs.Rings.{ring, with_ring}
 use Rattle.hybrid_model.specs.Sides.{Noted, Round, Row, Service}
 use Rattle.hybrid_model.specs.Tallies.{Reads}
-use Rattle.ikc_ring.specs.declared.Call.{Call}
+use Rattle.ikc_ring.specs.declared.CallRequest.{CallRequest}
 use Rattle.ikc_ring.specs.declared.Msg.{Msg}
 use Rattle.page_pins.specs.declared.Pin.{Pin}
 use Rattle.request_book.specs.declared.ReqState.{ReqState}
@@ -21,7 +21,7 @@ module _ (r : ℕ) (m : Msg) (ms : List Msg) (rings : List (List Msg)) (first : 
   }
 
   -- the message is neither a Request nor an Answer
-  pub taken-served : ((q : ℕ) → asks q m ≡ 0) → ((w : ℕ) → answers_to w m ≡ 0) → (worker_count : ℕ) (workers : Reads ℕ) (rows : Reads (ReqState × Call)) (services : Reads Service) (pins : Reads Pin) (waiting : List ℕ) (noted : Reads Noted) (bs : List Msg)
+  pub taken-served : ((q : ℕ) → asks q m ≡ 0) → ((w : ℕ) → answers_to w m ≡ 0) → (worker_count : ℕ) (workers : Reads ℕ) (rows : Reads (ReqState × CallRequest)) (services : Reads Service) (pins : Reads Pin) (waiting : List ℕ) (noted : Reads Noted) (bs : List Msg)
       → Served worker_count workers rows services pins waiting noted rings bs → Served worker_count workers rows services pins waiting noted (with_ring r ms rings) bs
   taken-served none no_answer worker_count workers rows services pins waiting noted bs c = record {
     worker_below = c.worker_below;

@@ -1,6 +1,4 @@
 -- Run in the whole state.
-use Rattle.kernel_model.specs.Steps as OneSteps
-use Rattle.kernel_model.specs.declared.steps.Step.TheVariants as Steps
 use Rattle.hybrid_model.specs.declared.events.Event.TheVariants as Events
 use Rattle.file_model.specs.Files.{Files, description_of}
 use Rattle.hybrid_laws.proofs.maps.Sums.{counted_in, total-cut}

@@ -1,7 +1,6 @@
 -- From one process to the whole state, where an event of the lightweight kernel makes a process, whose side is new.
 use Rattle.file_model.specs.Files.{description_of}
 use Rattle.hybrid_laws.proofs.maps.Sums.{counted_in, total-put}
-use Rattle.hybrid_laws.proofs.node.Primitives.{then}
 use Rattle.hybrid_laws.proofs.node.Sound.{Sound, stopped-total}
 use Rattle.hybrid_laws.proofs.states.Node.{left_with}
 use Rattle.hybrid_laws.specs.OneProcess.{with_table}
@@ -12,7 +11,7 @@ use Rattle.hybrid_model.specs.Turns.{pipe_end}
 use Rattle.hybrid_model.specs.Pairs.{Pair, side_of}
 use Rattle.hybrid_model.specs.Sides.{Row, Side, Turn, new_side, service_of, state_in, state_of}
 use Rattle.hybrid_model.specs.Tallies.{Reads}
-use Rattle.ikc_ring.specs.declared.Call.{Call}
+use Rattle.ikc_ring.specs.declared.CallRequest.{CallRequest}
 use Rattle.kernel_model.specs.Nodes.{Node, has_process, instructions_in_all, is_ended}
 use Rattle.kernel_model.specs.OneKernel.{first_free_number}
 use Rattle.mck_word.specs.MapLaws.{at-none, at-put}
@@ -32,7 +31,7 @@ module _ (pair : Pair) (c : Coherent pair) (p : ℕ) (absent : at pair.sides p �
 
   -- so none of its requests waits
   no-waits : (x : ℕ) → waits_or_held (state_of (side_of pair p).book x) ≡ true → ⊥
-  no-waits x u = let a = ap (λ (s : Side). waits_or_held (state_of s.book x)) was-new in let b = ap (λ (o : Option (ReqState × Call)). waits_or_held (state_in o)) (at-none {V = ReqState × Call} x) in grind (arith, a, b, u)
+  no-waits x u = let a = ap (λ (s : Side). waits_or_held (state_of s.book x)) was-new in let b = ap (λ (o : Option (ReqState × CallRequest)). waits_or_held (state_in o)) (at-none {V = ReqState × CallRequest} x) in grind (arith, a, b, u)
 
   own-side : (q : ℕ) → (q == p) ≡ true → side_of later q ≡ side
   own-side q e = ap (λ (o : Option Side). unwrap_or o (new_side 0)) (at-put pair.sides p side q ∙ ap (λ b. cond b (Some side) (at pair.sides q)) e)

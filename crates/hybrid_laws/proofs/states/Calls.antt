@@ -10,7 +10,7 @@ use Rattle.hybrid_model.specs.Turns.{end_of_found, end_of_target, is_turn_for, p
 use Rattle.hybrid_model.specs.Pairs.{Pair, side_of}
 use Rattle.hybrid_model.specs.Shown.{has_empty, reply_code, status_in, status_of}
 use Rattle.hybrid_model.specs.Sides.{Caller, Service, Side, Turn, call_in, new_side, service_of, state_in, state_of}
-use Rattle.ikc_ring.specs.declared.Call.{Call}
+use Rattle.ikc_ring.specs.declared.CallRequest.{CallRequest}
 use Rattle.kernel_model.specs.Nodes.{Node, is_there}
 use Rattle.kernel_model.specs.OneKernel.{Active, CallStatus}
 use Rattle.kernel_model.specs.Progress.{Progress}
@@ -23,7 +23,7 @@ use Rattle.std.proofs.lemmas.Bool.Decides.{nat_tests}
 use Rattle.std.specs.Prelude.{Bool, None, Option, Some, cond, false, sum_by, true, unwrap_or, ℕ, ℤ, ◌+◌, ◌<◌, ◌==◌, ◌≡◌, ◌≤◌}
 
 -- a request that waits or is held is under way, and its call holds the description that it found
-active-if : (s : ReqState) (call : Call) (k : Service) (b : Bool) (code : ℤ) → waits_or_held s ≡ true → status_in s call k b code ≡ Active k.progress
+active-if : (s : ReqState) (call : CallRequest) (k : Service) (b : Bool) (code : ℤ) → waits_or_held s ≡ true → status_in s call k b code ≡ Active k.progress
 active-if Waiting call k b code e = refl
 active-if Held call k b code e = refl
 active-if Posted call k b code e = absurd (grind (arith, e))
@@ -63,7 +63,7 @@ module _ (p : ℕ) (side : Side) (node : Node) (worker_count : ℕ) (ring_of : �
       one : (is_number d (Some d)) ≡ true
       one = let b : (d == d) ≡ true = grind (arith, nat_tests) in b
 
-      go : (o : Option (ReqState × Call)) → at side.book.rows n ≡ o → waits_or_held (state_in o) ≡ true → Holder
+      go : (o : Option (ReqState × CallRequest)) → at side.book.rows n ≡ o → waits_or_held (state_in o) ≡ true → Holder
       go None e u = absurd (grind (arith, u))
       go (Some r) e u =
           let c = the-caller p side node worker_count ring_of k n r.0 r.1 e (live-if r.0 u) in
@@ -75,7 +75,7 @@ module _ (p : ℕ) (side : Side) (node : Node) (worker_count : ℕ) (ring_of : �
             counts = ap (λ (j : ℕ). cond (is_number d (description_held (status_of side j))) 1 0) c.2 ∙ ap (λ s. cond (is_number d (description_held s)) 1 0) status-is ∙ ap (λ o. cond (is_number d o) 1 0) found ∙ ap (λ b. cond b 1 0) one;
           }
 
-module _ (pair : Pair) (c : Coherent pair) (p : ℕ) (there : is_there pair.node p ≡ true) (n : ℕ) (state : ReqState) (call : Call) (is : at (side_of pair p).book.rows n ≡ Some (state, call)) (live : is_live state ≡ true) (active : status_of (side_of pair p) n ≡ Active (service_of (side_of pair p).linux.services n).progress) where
+module _ (pair : Pair) (c : Coherent pair) (p : ℕ) (there : is_there pair.node p ≡ true) (n : ℕ) (state : ReqState) (call : CallRequest) (is : at (side_of pair p).book.rows n ≡ Some (state, call)) (live : is_live state ≡ true) (active : status_of (side_of pair p) n ≡ Active (service_of (side_of pair p).linux.services n).progress) where
   abbrev old : Side
   old = side_of pair p
 

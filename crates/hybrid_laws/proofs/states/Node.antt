@@ -1,7 +1,6 @@
 -- From one process to the whole state, where an event of the lightweight kernel changes the node, one side, the frames and the free ones, and makes no process.
 use Rattle.file_model.specs.Files.{description_of}
 use Rattle.hybrid_laws.proofs.maps.Sums.{counted_in, total-put}
-use Rattle.hybrid_laws.proofs.node.Primitives.{then}
 use Rattle.hybrid_laws.proofs.node.Sound.{Sound, stopped-total}
 use Rattle.hybrid_laws.proofs.states.Pair.{has-side, there-has}
 use Rattle.hybrid_laws.specs.OneProcess.{with_table}

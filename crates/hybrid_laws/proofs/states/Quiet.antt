@@ -2,7 +2,6 @@
 use Rattle.file_model.specs.Files.{Files, description_of}
 use Rattle.hybrid_laws.proofs.maps.Reading.{each-same}
 use Rattle.hybrid_laws.proofs.node.Goes.{Goes, GoesAwake, IsAwake}
-use Rattle.hybrid_laws.proofs.node.Primitives.{then}
 use Rattle.hybrid_laws.proofs.node.Sound.{goes-sound, goes-stays, same-ended, same-instructions, same-made, sleep-once, sleepers-are, sleeping-of, sound-of, stopped-less}
 use Rattle.hybrid_laws.proofs.run.Run.{TableApart}
 use Rattle.hybrid_laws.proofs.states.Node.{Keeping}

@@ -11,7 +11,7 @@ use Rattle.hybrid_model.specs.Turns.{turn_given_up}
 use Rattle.hybrid_model.specs.Pairs.{Pair, side_of}
 use Rattle.hybrid_model.specs.Shown.{status_of}
 use Rattle.hybrid_model.specs.Sides.{Side, Turn, service_of, state_of}
-use Rattle.ikc_ring.specs.declared.Call.{Call}
+use Rattle.ikc_ring.specs.declared.CallRequest.{CallRequest}
 use Rattle.kernel_model.specs.Nodes.{is_there, set_files}
 use Rattle.kernel_model.specs.OneKernel.{Active, CallStatus}
 use Rattle.kernel_model.specs.Progress.{Progress}
@@ -20,7 +20,7 @@ use Rattle.request_book.specs.declared.ReqState.TheVariants.{Held}
 use Rattle.std.proofs.Common.{arith, refl}
 use Rattle.std.specs.Prelude.{List, Some, false, length, true, ℕ, ◌==◌, ◌≡◌}
 
-module _ (pair : Pair) (c : Coherent pair) (p : ℕ) (there : is_there pair.node p ≡ true) (w n : ℕ) (call : Call) (serving : at (side_of pair p).linux.workers w ≡ Some n) (is : at (side_of pair p).book.rows n ≡ Some (Held, call)) where
+module _ (pair : Pair) (c : Coherent pair) (p : ℕ) (there : is_there pair.node p ≡ true) (w n : ℕ) (call : CallRequest) (serving : at (side_of pair p).linux.workers w ≡ Some n) (is : at (side_of pair p).book.rows n ≡ Some (Held, call)) where
   abbrev old : Side
   old = side_of pair p
 

@@ -8,7 +8,7 @@ use Rattle.hybrid_model.specs.Turns.{is_turn_for, pipe_end, turn_given_up, witho
 use Rattle.hybrid_model.specs.Pairs.{Pair, side_of}
 use Rattle.hybrid_model.specs.Shown.{status_of}
 use Rattle.hybrid_model.specs.Sides.{Caller, Side, Turn, service_of, state_of, stated}
-use Rattle.ikc_ring.specs.declared.Call.{Call as ReqCall}
+use Rattle.ikc_ring.specs.declared.CallRequest.{CallRequest}
 use Rattle.kernel_model.specs.Nodes.{is_there}
 use Rattle.kernel_model.specs.Progress.{ends}
 use Rattle.mck_word.specs.MapLaws.{at-cut, at-put}
@@ -68,10 +68,10 @@ holders-same side old e h d =
     (λ k v u. ap (λ o. cond (is_number d o) 1 0) (h k v u))
 
 -- a state of another request stays
-pub stated-other : (s : ReqState) (q : ℕ) (rows : Map (ReqState × ReqCall)) (x : ℕ) → (x == q) ≡ false → at (stated s (at rows q) q rows) x ≡ at rows x
+pub stated-other : (s : ReqState) (q : ℕ) (rows : Map (ReqState × CallRequest)) (x : ℕ) → (x == q) ≡ false → at (stated s (at rows q) q rows) x ≡ at rows x
 stated-other s q rows x f = go (at rows q)
   where
-    go : (o : Option (ReqState × ReqCall)) → at (stated s o q rows) x ≡ at rows x
+    go : (o : Option (ReqState × CallRequest)) → at (stated s o q rows) x ≡ at rows x
     go None = refl
     go (Some r) = at-put rows q (s, r.1) x ∙ ap (λ b. cond b (Some (s, r.1)) (at rows x)) f
 

@@ -1,15 +1,13 @@
 -- The Trap of a delegated call: its number, its Request, its caller's row. It keeps what holds of the process.
 use Rattle.hybrid_laws.proofs.maps.Reading.{Each-map, EachRing-post, sum-post}
-use Rattle.hybrid_laws.proofs.node.Primitives.{then}
 use Rattle.hybrid_laws.proofs.requests.Requests.{PinServes-keeps}
 use Rattle.hybrid_model.specs.Coherence.{Covered, Rounded, Served, Answered, CallHolds, AnswerCovered, AnswerIsFor, ClearIsOf, IsOutside, NotAhead, ReplyIsAwaited, answers_to, asks, calls_it, clears, is_live, tid_in}
 use Rattle.hybrid_model.specs.Rings.{post}
 use Rattle.hybrid_model.specs.Sides.{Row, Round, Noted, Service, Caller, state_in}
 use Rattle.hybrid_model.specs.Tallies.{Reads, with_at, if_same}
-use Rattle.ikc_ring.specs.declared.Call.{Call}
+use Rattle.ikc_ring.specs.declared.CallRequest.{CallRequest}
 use Rattle.ikc_ring.specs.declared.Msg.TheVariants.{Request, Clear, Answer, Interrupt, Reply, Ack, Fault}
 use Rattle.ikc_ring.specs.declared.Msg.{Msg}
-use Rattle.mck_word.specs.Maps.{at}
 use Rattle.page_pins.specs.declared.Pin.{Pin}
 use Rattle.request_book.specs.declared.ReqState.TheVariants.{Posted}
 use Rattle.request_book.specs.declared.ReqState.{ReqState}
@@ -18,14 +16,14 @@ use Rattle.std.proofs.lemmas.Bool.Decides.{nat_tests}
 use Rattle.std.specs.Prelude.{Bool, List, None, Option, Some, false, if◌then◌else◌, true, ℕ, ◌+◌, ◌<◌, ◌==◌, ◌≡◌}
 
 -- ---- the table and the round: a Request is no Clear and no answer
-request-clears : (round : Option Round) (c : Call) → ClearIsOf round (Request c)
+request-clears : (round : Option Round) (c : CallRequest) → ClearIsOf round (Request c)
 request-clears None c = tt
 request-clears (Some r) c = tt
 
-request-outside : (round : Option Round) (begun : ℕ) (c : Call) → IsOutside round begun (Request c)
+request-outside : (round : Option Round) (begun : ℕ) (c : CallRequest) → IsOutside round begun (Request c)
 request-outside round begun c = tt
 
-module _ (round : Option Round) (table mirror : Reads Row) (pins : Reads Pin) (begun cleared r : ℕ) (c : Call) (rings : List (List Msg)) (bs : List Msg) where
+module _ (round : Option Round) (table mirror : Reads Row) (pins : Reads Pin) (begun cleared r : ℕ) (c : CallRequest) (rings : List (List Msg)) (bs : List Msg) where
   pub covered-call : Covered table mirror pins begun cleared rings → Covered table mirror pins begun cleared (post r (Request c) rings)
   covered-call h = record { mirror_rows = h.mirror_rows; answers = EachRing-post (AnswerCovered table cleared) r (Request c) rings h.answers tt; not_ahead = EachRing-post (NotAhead begun) r (Request c) rings h.not_ahead tt; pin_rows = h.pin_rows }
 
@@ -41,8 +39,8 @@ module _ (round : Option Round) (table mirror : Reads Row) (pins : Reads Pin) (b
   }
 
 -- ---- requests
-module _ (worker_count : ℕ) (workers : Reads ℕ) (rows : Reads (ReqState × Call)) (services : Reads Service) (pins : Reads Pin) (waiting : List ℕ) (noted : Reads Noted) (rings : List (List Msg)) (bs : List Msg) (s : Served worker_count workers rows services pins waiting noted rings bs) (r q : ℕ) (c : Call) (number : c.q.0 ≡ q) (fresh : rows q ≡ None) where
-  abbrev rows' : Reads (ReqState × Call)
+module _ (worker_count : ℕ) (workers : Reads ℕ) (rows : Reads (ReqState × CallRequest)) (services : Reads Service) (pins : Reads Pin) (waiting : List ℕ) (noted : Reads Noted) (rings : List (List Msg)) (bs : List Msg) (s : Served worker_count workers rows services pins waiting noted rings bs) (r q : ℕ) (c : CallRequest) (number : c.q.0 ≡ q) (fresh : rows q ≡ None) where
+  abbrev rows' : Reads (ReqState × CallRequest)
   rows' = with_at rows q (Some (Posted, c))
 
   asks-it : (p : ℕ) → if_same c.q.0 p ≡ if_same q p
@@ -64,8 +62,8 @@ module _ (worker_count : ℕ) (workers : Reads ℕ) (rows : Reads (ReqState × C
   }
 
 -- ---- callers
-module _ (rows : Reads (ReqState × Call)) (callers : Reads Caller) (q : ℕ) (bs : List Msg) (a : Answered rows callers q bs) (t : ℕ) (idle : callers t ≡ None) (c : Call) (tid : c.tid.0 ≡ t) where
-  abbrev more : Reads (ReqState × Call)
+module _ (rows : Reads (ReqState × CallRequest)) (callers : Reads Caller) (q : ℕ) (bs : List Msg) (a : Answered rows callers q bs) (t : ℕ) (idle : callers t ≡ None) (c : CallRequest) (tid : c.tid.0 ≡ t) where
+  abbrev more : Reads (ReqState × CallRequest)
   more = with_at rows q (Some (Posted, c))
 
   abbrev callers' : Reads Caller
@@ -120,8 +118,8 @@ module _ (rows : Reads (ReqState × Call)) (callers : Reads Caller) (q : ℕ) (b
       go true f k = absurd (let g : tid_in (rows p) ≡ t = grind (arith, nat_tests, f) in let n = rw (g, idle) at k in grind (arith, n))
       go false f k = k
 
-  not-replied : (b : Bool) (p : ℕ) (r : ReqState × Call) → (if b then Some (Posted, c) else rows p) ≡ Some r → is_live r.0 ≡ true
-  not-replied true p r e = let g : (Posted, c) ≡ r = cc in ap (λ (z : ReqState × Call). is_live z.0) (sym g)
+  not-replied : (b : Bool) (p : ℕ) (r : ReqState × CallRequest) → (if b then Some (Posted, c) else rows p) ≡ Some r → is_live r.0 ≡ true
+  not-replied true p r e = let g : (Posted, c) ≡ r = cc in ap (λ (z : ReqState × CallRequest). is_live z.0) (sym g)
   not-replied false p r e = a.not_replied p r e
 
   pub answered_call : Answered more callers' (q + 1) bs

@@ -8,7 +8,7 @@ use Rattle.hybrid_laws.proofs.trap.Call.{keeps_begin_call}
 use Rattle.hybrid_laws.proofs.trap.CallShown.{calls_begin}
 use Rattle.hybrid_laws.specs.OneProcess.{NodeHolds, RingsHold}
 use Rattle.hybrid_model.specs.Coherence.{OfProcess}
-use Rattle.hybrid_model.specs.Fetch.{first_progress, phases_in}
+use Rattle.hybrid_model.specs.Fetch.{first_progress}
 use Rattle.hybrid_model.specs.OneProcess.{memory_here, view_here}
 use Rattle.hybrid_model.specs.Trap.{begin_call, trapped, call_made}
 use Rattle.hybrid_model.specs.Pairs.{Here, ring_of}
@@ -17,14 +17,13 @@ use Rattle.hybrid_model.specs.Sides.{Side}
 use Rattle.isa_model.specs.declared.stops.Stop.{Stop}
 use Rattle.kernel_model.specs.Nodes.{Node, Thread, change_thread, is_living, is_stopped, set_does, set_pc, thread_of}
 use Rattle.kernel_model.specs.OneKernel.{Active}
-use Rattle.kernel_model.specs.Plans.{Delegated, plan, Phase as CallPhase}
-use Rattle.kernel_model.specs.Progress.{Progress, starting}
-use Rattle.kernel_model.specs.Traps.{Begins, may_trap, past_ecall, planned}
+use Rattle.kernel_model.specs.Progress.{Progress}
+use Rattle.kernel_model.specs.Traps.{Begins, may_trap, past_ecall}
 use Rattle.kernel_model.specs.declared.Does.TheVariants.{Called, Stopped}
 use Rattle.mck_word.specs.Maps.{at, each, put}
 use Rattle.std.proofs.Common.{mod-lt, ap, arith, refl, sym, ◌∙◌, subst}
 use Rattle.std.proofs.lemmas.Bool.Decides.{nat_tests}
-use Rattle.std.specs.Prelude.{Bool, List, Some, false, is_some, length, true, ℕ, ◌%◌, ◌&&◌, ◌+◌, ◌<◌, ◌==◌, ◌≡◌, ◌≢◌, Option}
+use Rattle.std.specs.Prelude.{Bool, Some, false, is_some, length, true, ℕ, ◌%◌, ◌&&◌, ◌+◌, ◌<◌, ◌==◌, ◌≡◌, ◌≢◌, Option}
 
 -- the thread of a trap
 pub record Traps (node : Node) (t : ℕ) : Type 0 where
@@ -87,10 +86,9 @@ module _ (p t : ℕ) (h : Here) (x : Traps h.node t) (progress : Progress) (new 
       keeps = record { threads = λ u. go u (u == t) refl; heap = refl }
 
   -- the call that is shown
-  pub shown_begins : (workers : ℕ) → OfProcess p h.side h.node workers (ring_of h) → (phases : List CallPhase) → plan progress.number progress.arguments ≡ Delegated phases → progress ≡ starting progress.number progress.arguments phases
+  pub shown_begins : (workers : ℕ) → OfProcess p h.side h.node workers (ring_of h) → progress ≡ first_progress (call_made h.side.book.next t progress)
       → Steps.one_trapped p t (Begins new progress) (shown_here h) ≡ shown_here (trapped p t (Begins new progress) h)
   unfolding begin_call
-  shown_begins workers k phases planned starts =
-      let f : progress ≡ first_progress (call_made h.side.book.next t progress) = starts ∙ ap (λ is. starting progress.number progress.arguments (phases_in is)) (sym planned) in
-      let c = ap (λ (y : Progress). put (each (shown_call h.side) h.side.lwk.callers) t (record { marked = false; status = Active y })) f ∙ calls_begin p h.side h.node workers (ring_of h) k (ring_of h t) t progress in
+  shown_begins workers k starts =
+      let c = ap (λ (y : Progress). put (each (shown_call h.side) h.side.lwk.callers) t (record { marked = false; status = Active y })) starts ∙ calls_begin p h.side h.node workers (ring_of h) k (ring_of h t) t progress in
       λ i. record { own = record { memory = memory_here h; calls = c i }; node = set_does t Called new; free = length h.free; born = shown_born h.frames h.born }

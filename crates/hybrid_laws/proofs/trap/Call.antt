@@ -2,7 +2,6 @@
 use Rattle.hybrid_laws.proofs.maps.Reading.{EachRing-map, EachRing-post, reads-put, sum-post}
 use Rattle.hybrid_laws.proofs.maps.Tests.{no-none}
 use Rattle.hybrid_laws.proofs.node.Keeps.{closing-same}
-use Rattle.hybrid_laws.proofs.node.Primitives.{then}
 use Rattle.hybrid_laws.proofs.trap.BeginCall.{answered_call, covered-call, rounded-call, served_call}
 use Rattle.hybrid_laws.proofs.trap.Posted.{IsGiven, Messages-request}
 use Rattle.hybrid_model.specs.Coherence.{OfProcess, Owned, CallsAgree, Marked, RequestIs, interrupts_of, service_at, is_fetched, state_at, InterruptIs, goes_to_linux, place_in, tid_in}
@@ -10,7 +9,7 @@ use Rattle.hybrid_model.specs.Trap.{begin_call}
 use Rattle.hybrid_model.specs.Rings.{post}
 use Rattle.hybrid_model.specs.Sides.{Side, Round, Caller}
 use Rattle.hybrid_model.specs.Tallies.{Reads, with_at, tally, Each, sum_rings, EachRing, as_number}
-use Rattle.ikc_ring.specs.declared.Call.{Call}
+use Rattle.ikc_ring.specs.declared.CallRequest.{CallRequest}
 use Rattle.ikc_ring.specs.declared.Msg.TheVariants.{Request, Clear, Answer, Interrupt, Reply, Ack, Fault}
 use Rattle.ikc_ring.specs.declared.Msg.{Msg}
 use Rattle.kernel_model.specs.Nodes.{Node, Thread, Process, process_of, is_called, change_in}
@@ -54,7 +53,7 @@ none-in-rings : (q : ℕ) (rs : List (List Msg)) → EachRing (IsGiven q) rs →
 none-in-rings q [] h = refl
 none-in-rings q (ms ∷ rs) h = omega (arith, none-in q ms h.0, none-in-rings q rs h.1)
 
-given-one : (rows : Reads (ReqState × Call)) (threads : Reads Thread) (q : ℕ) (m : Msg) → InterruptIs q rows threads m → IsGiven q m
+given-one : (rows : Reads (ReqState × CallRequest)) (threads : Reads Thread) (q : ℕ) (m : Msg) → InterruptIs q rows threads m → IsGiven q m
 given-one rows threads q (Interrupt n place) h = h.0
 given-one rows threads q (Request c) h = tt
 given-one rows threads q (Clear r) h = tt
@@ -63,7 +62,7 @@ given-one rows threads q (Reply n code) h = tt
 given-one rows threads q Ack h = tt
 given-one rows threads q (Fault v i a) h = tt
 
-interrupt-more : (rows : Reads (ReqState × Call)) (threads threads' : Reads Thread) (q : ℕ) (c : Call) → ((k u : ℕ) → place_in k (threads' u) ≡ place_in k (threads u)) → (m : Msg) → InterruptIs q rows threads m → InterruptIs (q + 1) (with_at rows q (Some (Posted, c))) threads' m
+interrupt-more : (rows : Reads (ReqState × CallRequest)) (threads threads' : Reads Thread) (q : ℕ) (c : CallRequest) → ((k u : ℕ) → place_in k (threads' u) ≡ place_in k (threads u)) → (m : Msg) → InterruptIs q rows threads m → InterruptIs (q + 1) (with_at rows q (Some (Posted, c))) threads' m
 interrupt-more rows threads threads' q c stays (Interrupt n place) h =
     let l = h.0 in
     let d : (n.0 == q) ≡ false = grind (arith, nat_tests, l) in
@@ -75,7 +74,7 @@ interrupt-more rows threads threads' q c stays (Reply n code) h = tt
 interrupt-more rows threads threads' q c stays Ack h = tt
 interrupt-more rows threads threads' q c stays (Fault v i a) h = tt
 
-asked-more : (rows : Reads (ReqState × Call)) (q : ℕ) (c : Call) → rows q ≡ None → (m : Msg) → RequestIs rows m → RequestIs (with_at rows q (Some (Posted, c))) m
+asked-more : (rows : Reads (ReqState × CallRequest)) (q : ℕ) (c : CallRequest) → rows q ≡ None → (m : Msg) → RequestIs rows m → RequestIs (with_at rows q (Some (Posted, c))) m
 asked-more rows q c none (Request z) h = grind (arith, nat_tests, none, h)
 asked-more rows q c none (Interrupt n place) h = tt
 asked-more rows q c none (Clear r) h = tt
@@ -91,8 +90,8 @@ module _ (p : ℕ) (side : Side) (node node' : Node) (worker_count : ℕ) (ring_
   abbrev q : ℕ
   q = side.book.next
 
-  abbrev call : Call
-  call = record { q = record { 0 = q }; tid = record { 0 = t }; number = progress.number; args = progress.arguments }
+  abbrev call : CallRequest
+  call = record { q = record { 0 = q }; tid = record { 0 = t }; call = progress.call; args = progress.arguments }
 
   idle : at side.lwk.callers t ≡ None
   idle = no-none (at side.lwk.callers t) (ap not (sym (h.calls.called t x there mine) ∙ not-called))

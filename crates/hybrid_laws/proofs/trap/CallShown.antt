@@ -8,7 +8,7 @@ use Rattle.hybrid_model.specs.Rings.{post}
 use Rattle.hybrid_model.specs.Shown.{status_by, status_of, status_in, shown_call, reply_code}
 use Rattle.hybrid_model.specs.Sides.{Side, Caller, no_service, state_in, call_in}
 use Rattle.hybrid_model.specs.Tallies.{Reads, with_at}
-use Rattle.ikc_ring.specs.declared.Call.{Call}
+use Rattle.ikc_ring.specs.declared.CallRequest.{CallRequest}
 use Rattle.ikc_ring.specs.declared.Msg.TheVariants.{Request}
 use Rattle.kernel_model.specs.Nodes.{Node}
 use Rattle.kernel_model.specs.OneKernel.{Active}
@@ -26,8 +26,8 @@ module _ (p : ℕ) (side : Side) (node : Node) (worker_count : ℕ) (ring_of : �
   abbrev pub q : ℕ
   q = side.book.next
 
-  abbrev pub call : Call
-  call = record { q = record { 0 = q }; tid = record { 0 = t }; number = progress.number; args = progress.arguments }
+  abbrev pub call : CallRequest
+  call = record { q = record { 0 = q }; tid = record { 0 = t }; call = progress.call; args = progress.arguments }
 
   pub status-other : (u : ℕ) (d : Caller) → at side.lwk.callers u ≡ Some d → status_by (with_at (at side.book.rows) q (Some (Posted, call))) (at side.linux.services) (at side.linux.workers) (post r (Request call) side.to_linux) side.to_lwk d.request ≡ status_of side d.request
   status-other u d e =
@@ -51,6 +51,6 @@ module _ (p : ℕ) (side : Side) (node : Node) (worker_count : ℕ) (ring_of : �
     where
       go : (j : ℕ) (b : Bool) → (j == t) ≡ b → (o : Option Caller) → at side.lwk.callers j ≡ o
           → cond b (Some (record { marked = false; status = Active (first_progress call) })) (and_then o (λ v. Some (shown_call side v))) ≡ and_then (cond b (Some (record { request = q; marked = false })) o) (λ v. Some (shown_call (begin_call r t progress side) v))
-      go j true e o f = let k = sym (ap (λ (m : Reads (ReqState × Call)). status_by m (at side.linux.services) (at side.linux.workers) (post r (Request call) side.to_linux) side.to_lwk q) (reads-put side.book.rows q (Posted, call)) ∙ status-own) in λ i. Some (record { marked = false; status = k i })
+      go j true e o f = let k = sym (ap (λ (m : Reads (ReqState × CallRequest)). status_by m (at side.linux.services) (at side.linux.workers) (post r (Request call) side.to_linux) side.to_lwk q) (reads-put side.book.rows q (Posted, call)) ∙ status-own) in λ i. Some (record { marked = false; status = k i })
       go j false e None f = refl
-      go j false e (Some d) f = let k = sym (ap (λ (m : Reads (ReqState × Call)). status_by m (at side.linux.services) (at side.linux.workers) (post r (Request call) side.to_linux) side.to_lwk d.request) (reads-put side.book.rows q (Posted, call)) ∙ status-other j d f) in λ i. Some (record { marked = d.marked; status = k i })
+      go j false e (Some d) f = let k = sym (ap (λ (m : Reads (ReqState × CallRequest)). status_by m (at side.linux.services) (at side.linux.workers) (post r (Request call) side.to_linux) side.to_lwk d.request) (reads-put side.book.rows q (Posted, call)) ∙ status-other j d f) in λ i. Some (record { marked = d.marked; status = k i })

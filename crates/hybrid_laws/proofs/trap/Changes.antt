@@ -39,6 +39,7 @@ use Rattle.page_pins.specs.declared.Pin.{Pin}
 use Rattle.std.proofs.Common.{ap, arith, refl, subst, sym, ◌∙◌}
 use Rattle.std.proofs.lemmas.Bool.Decides.{nat_tests}
 use Rattle.std.specs.Prelude.{Bool, List, None, Option, Some, false, length, not, suc, true, unwrap_or, zero, ℕ, ◌&&◌, ◌+◌, ◌-◌, ◌==◌, ◌||◌, ◌≡◌, ◌≤◌}
+use Rattle.system_calls.specs.declared.MemoryCall.{MemoryCall}
 
 -- each row stays at its frame with its rights or more
 abbrev pub Grows : Reads Row → Reads Row → Type 0
@@ -135,8 +136,8 @@ module _ (x : Process) (c : Change) (sp : Space) (says : NowSays x (shown_memory
   pub now-fits : e.added.hi - e.added.lo ≤ length (each_in drop_page e.dropped sp).free
   now-fits = let d = length-dropped e.dropped sp in let l = says.enough in omega (arith, d, l)
 
-module _ (p t : ℕ) (h : Here) (x : Traps h.node t) (mine : x.thread.process ≡ p) (new : Node) (c : Change) (past : new ≡ (past_ecall t (view_here h)).node) (number : ℕ) (arguments : List ℕ)
-    (decided : decide (process_of new (thread_of new t).process) (memory_here h) (length h.free) number arguments ≡ Now c) where
+module _ (p t : ℕ) (h : Here) (x : Traps h.node t) (mine : x.thread.process ≡ p) (new : Node) (c : Change) (past : new ≡ (past_ecall t (view_here h)).node) (call : MemoryCall) (arguments : List ℕ)
+    (decided : decide (process_of new (thread_of new t).process) (memory_here h) (length h.free) call arguments ≡ Now c) where
   abbrev one_free : ℕ → Bool
   one_free u = u == t
 
@@ -149,8 +150,8 @@ module _ (p t : ℕ) (h : Here) (x : Traps h.node t) (mine : x.thread.process �
       ∙ ap (λ (o : Option Thread). (unwrap_or o no_thread).process) (thread-changed h.node t (λ (y : Thread). record y { regs = set_pc (y.regs.pc + 4) y.regs }) x.thread x.there) ∙ mine
 
   pub says : NowSays changer (memory_here h) (length h.free) c
-  says = subst (λ (d : Decision). DecisionSays changer (memory_here h) (length h.free) d) (ap (λ (q : ℕ). decide (process_of new q) (memory_here h) (length h.free) number arguments) (sym new-process) ∙ decided)
-      (decide-says changer (memory_here h) (length h.free) number arguments)
+  says = subst (λ (d : Decision). DecisionSays changer (memory_here h) (length h.free) d) (ap (λ (q : ℕ). decide (process_of new q) (memory_here h) (length h.free) call arguments) (sym new-process) ∙ decided)
+      (decide-says changer (memory_here h) (length h.free) call arguments)
 
   keeps : (q : ℕ) → Keeps q one_free h.node (trapped p t (Changes new c) h).node
   keeps q =

@@ -5,9 +5,9 @@ use Rattle.hybrid_laws.proofs.maps.Lookups.{each-at, no-row}
 use Rattle.hybrid_laws.proofs.maps.Sums.{sum_of}
 use Rattle.hybrid_laws.proofs.maps.Tests.{both}
 use Rattle.hybrid_laws.proofs.memory.Effects.{count-inside, inside}
-use Rattle.hybrid_laws.proofs.node.Primitives.{then}
 use Rattle.hybrid_model.specs.Tallies.{Each}
 use Rattle.isa_model.specs.Memory.{Memory, Page}
+use Rattle.kernel_model.specs.CallPhases.{argument}
 use Rattle.kernel_model.specs.MemoryCalls.{Reply as DecidedReply, Round as DecidedRound, Decision, Now, all_present, any_lessened, brk, brk_down, brk_up, count_present, decide, effect_of, exceeds, gap_below, gap_ends, highest_gap, highest_gap_end, is_aligned, is_fixed, is_gap, is_inside, lessens, low_word, lowest_address, map_anywhere, map_fixed, mmap, most_heap, mprotect, munmap, no_page_in, nothing, pages_for, protect_range, range_for, refuse, rights_of_prot, round_or_now}
 use Rattle.kernel_model.specs.Nodes.{Process}
 use Rattle.kernel_model.specs.Pages.{page_end, page_number, pages_count, range}
@@ -21,7 +21,9 @@ use Rattle.mck_word.specs.declared.PageRange.{PageRange}
 use Rattle.std.proofs.Common.{ap, arith, refl, sym, ◌∙◌}
 use Rattle.std.proofs.lemmas.Bool.Decides.{nat_tests}
 use Rattle.std.proofs.lemmas.List.Sums.{sum_by-cons}
-use Rattle.std.specs.Prelude.{Bool, List, None, Option, Some, [], cond, false, find, get_or, if◌then◌else◌, nat_le, nat_lt, not, pos, true, ℕ, ◌%◌, ◌&&◌, ◌+◌, ◌-◌, ◌<◌, ◌==◌, ◌||◌, ◌∷◌, ◌≡◌, ◌≤◌}
+use Rattle.std.specs.Prelude.{Bool, List, None, Option, Some, [], cond, false, find, if◌then◌else◌, nat_le, nat_lt, not, pos, true, ℕ, ◌%◌, ◌&&◌, ◌+◌, ◌-◌, ◌<◌, ◌==◌, ◌||◌, ◌∷◌, ◌≡◌, ◌≤◌}
+use Rattle.system_calls.specs.declared.MemoryCall.TheVariants as Calls
+use Rattle.system_calls.specs.declared.MemoryCall.{MemoryCall}
 
 pub record NowSays (x : Process) (m : Memory) (free : ℕ) (c : Change) : Type 0 where
   pub dropped : (j : ℕ) → in_range (effect_of x c).dropped j ≡ true → at m j ≡ None
@@ -186,9 +188,8 @@ module _ (x : Process) (m : Memory) (free : ℕ) where
           neither false c f = (refl, f)
           neither true c f = absurd (grind (arith, f))
 
-  pub decide-says : (number : ℕ) (arguments : List ℕ) → Says (decide x m free number arguments)
-  decide-says number arguments =
-      let a0 = get_or arguments 0 0 in let a1 = get_or arguments 1 0 in let a2 = get_or arguments 2 0 in let a3 = get_or arguments 3 0 in
-      says-if (number == 222) (mmap m free a0 a1 (low_word a2) (low_word a3)) (cond (number == 215) (munmap m a0 a1) (cond (number == 226) (mprotect m a0 a1 (low_word a2)) (brk x m free a0))) (λ e. mmap-says a0 a1 (low_word a2) (low_word a3))
-      (λ e. says-if (number == 215) (munmap m a0 a1) (cond (number == 226) (mprotect m a0 a1 (low_word a2)) (brk x m free a0)) (λ f. munmap-says a0 a1)
-      (λ f. says-if (number == 226) (mprotect m a0 a1 (low_word a2)) (brk x m free a0) (λ g. mprotect-says a0 a1 (low_word a2)) (λ g. brk-says a0)))
+  pub decide-says : (call : MemoryCall) (arguments : List ℕ) → Says (decide x m free call arguments)
+  decide-says Calls.Mmap arguments = mmap-says (argument arguments 0) (argument arguments 1) (low_word (argument arguments 2)) (low_word (argument arguments 3))
+  decide-says Calls.Munmap arguments = munmap-says (argument arguments 0) (argument arguments 1)
+  decide-says Calls.Mprotect arguments = mprotect-says (argument arguments 0) (argument arguments 1) (low_word (argument arguments 2))
+  decide-says Calls.Brk arguments = brk-says (argument arguments 0)

@@ -9,17 +9,15 @@ use Rattle.hybrid_laws.proofs.states.Quiet.{sleeping-after}
 use Rattle.hybrid_laws.proofs.trap.Goes.{NodeSteps, more-sound, more-stops, steps-of, steps-then, stops-fewer}
 use Rattle.hybrid_laws.specs.Stopped.{stops}
 use Rattle.isa_model.specs.Memory.{may_access}
-use Rattle.isa_model.specs.Registers.{reg}
 use Rattle.isa_model.specs.declared.stops.Stop.TheVariants.{Break, Ecall, Illegal, Misaligned, On, Fault as StopFault}
 use Rattle.isa_model.specs.declared.stops.Stop.{Stop}
-use Rattle.kernel_model.specs.Calls.{local_call, one_of_calls}
+use Rattle.kernel_model.specs.Calls.{clone_call, local_call}
 use Rattle.kernel_model.specs.CloneCalls.{CallDone, are_clone_flags, are_fork_flags, clone, clone_or_fork, cloned_thread, clones, forks, with_thread}
 use Rattle.kernel_model.specs.LocalCalls.{refuses}
 use Rattle.kernel_model.specs.MemoryCalls.{Reply as DecidedReply, Round as DecidedRound, Decision, Now, decide}
 use Rattle.kernel_model.specs.Nodes.{Node, Thread, answered, is_asleep, is_stopped, lowest_free_place, most_processes, most_threads, process_of, set_a0, set_does, set_pc, stop_in, thread_of, threads_of}
-use Rattle.kernel_model.specs.Plans.{Delegated, Local, Plan, Unknown, Vm, plan}
 use Rattle.kernel_model.specs.Signals.{View, on_node, raised, signal_of_stop, store, try_store}
-use Rattle.kernel_model.specs.Traps.{Changes, Done, Forks, Trapped, arguments_of, cloned, decided, past_ecall, planned, trap, trap_of_stop, Begins}
+use Rattle.kernel_model.specs.Traps.{Changes, Done, Forks, Trapped, arguments_of, call_named, called, cloned, decided, past_ecall, trap, trap_of_stop, Begins}
 use Rattle.kernel_model.specs.declared.Does.TheVariants.{InVm, Ready, Stopped}
 use Rattle.mck_word.specs.MapLaws.{at-put}
 use Rattle.mck_word.specs.Maps.{at, change, count, total}
@@ -29,6 +27,9 @@ use Rattle.mck_word.specs.declared.Regs.{Regs}
 use Rattle.std.proofs.Common.{ap, arith, refl, subst, sym, ◌∙◌}
 use Rattle.std.proofs.lemmas.Bool.Decides.{nat_tests}
 use Rattle.std.specs.Prelude.{Bool, List, None, Option, Some, cond, false, get_or, length, nat_le, nat_lt, not, pos, true, ℕ, ℤ, ◌+◌, ◌<◌, ◌==◌, ◌≡◌}
+use Rattle.system_calls.specs.declared.LocalCall.{LocalCall}
+use Rattle.system_calls.specs.declared.SystemCall.TheVariants.{Clone, File, Local, Memory}
+use Rattle.system_calls.specs.declared.SystemCall.{SystemCall}
 
 clones-node : (t flags stack parent_tid tls child_tid : ℕ) (v : View) → (clones t flags stack parent_tid tls child_tid v).node ≡ answered t (pos v.node.next_number) (with_thread (cloned_thread v.node (thread_of v.node t) flags stack tls child_tid) v.node)
 clones-node t flags stack parent_tid tls child_tid v = ap (answered t (pos n)) (outer (has_bit 24 flags) (may_access told.memory Write child_tid (length (little_endian 4 n))))
@@ -139,25 +140,25 @@ module _ (t : ℕ) where
         go true false false = tt
         go false c d = clone-steps flags stack parent_tid tls child_tid
 
-    local-steps : (frames number : ℕ) (arguments : List ℕ) → TrappedSteps v.node (cloned (local_call t frames number arguments v))
+    local-steps : (call : LocalCall) (arguments : List ℕ) → NodeSteps v.node (local_call t call arguments v).node
     unfolding local_call
-    local-steps frames number arguments = go (number == 220) (fork-steps frames (get_or arguments 0 0) (get_or arguments 1 0) (get_or arguments 2 0) (get_or arguments 3 0) (get_or arguments 4 0))
-      where
-        go : (b : Bool) → TrappedSteps v.node (cloned (clone_or_fork t frames (get_or arguments 0 0) (get_or arguments 1 0) (get_or arguments 2 0) (get_or arguments 3 0) (get_or arguments 4 0) v))
-            → TrappedSteps v.node (cloned (cond b (clone_or_fork t frames (get_or arguments 0 0) (get_or arguments 1 0) (get_or arguments 2 0) (get_or arguments 3 0) (get_or arguments 4 0) v) (CallDone (one_of_calls t number (λ k. get_or arguments k 0) v))))
-        go true k = k
-        go false k = on (one_of_calls t number (λ k. get_or arguments k 0) v).node (calls-closed t (GoesAwake t) (GoesOn t) (goes-closed t) number (λ k. get_or arguments k 0) v)
+    local-steps call arguments = on (local_call t call arguments v).node (calls-closed t (GoesAwake t) (GoesOn t) (goes-closed t) call (λ k. get_or arguments k 0) v)
+
+    clone_call-steps : (frames : ℕ) (arguments : List ℕ) → TrappedSteps v.node (cloned (clone_call t frames arguments v))
+    unfolding clone_call
+    clone_call-steps frames arguments = fork-steps frames (get_or arguments 0 0) (get_or arguments 1 0) (get_or arguments 2 0) (get_or arguments 3 0) (get_or arguments 4 0)
 
     decided-steps : (d : Decision) → TrappedSteps v.node (decided t v d)
     decided-steps (DecidedReply answer) = answers-steps answer
     decided-steps (Now change) = tt
     decided-steps (DecidedRound change) = awake-steps v.node (set_does t (InVm change) v.node) s awake (does-closed t (GoesAwake t) (GoesOn t) (goes-closed t) v.node (InVm change) refl)
 
-    planned-steps : (frames : ℕ) (r : Regs) (is : Plan) → TrappedSteps v.node (planned t frames r v is)
-    planned-steps frames r Unknown = answers-steps (refused ENOSYS)
-    planned-steps frames r Local = local-steps frames (reg r 17) (arguments_of r)
-    planned-steps frames r Vm = decided-steps (decide (process_of v.node (thread_of v.node t).process) v.memory frames (reg r 17) (arguments_of r))
-    planned-steps frames r (Delegated phases) = tt
+    called-steps : (frames : ℕ) (r : Regs) (o : Option SystemCall) → TrappedSteps v.node (called t frames r v o)
+    called-steps frames r None = answers-steps (refused ENOSYS)
+    called-steps frames r (Some Clone) = clone_call-steps frames (arguments_of r)
+    called-steps frames r (Some (Local call)) = local-steps call (arguments_of r)
+    called-steps frames r (Some (Memory call)) = decided-steps (decide (process_of v.node (thread_of v.node t).process) v.memory frames call (arguments_of r))
+    called-steps frames r (Some (File call)) = tt
 
     raised-steps : (signal : ℕ) → NodeSteps v.node (raised t signal v.node)
     raised-steps signal = awake-steps v.node (raised t signal v.node) s awake (raised-closed t (GoesAwake t) (GoesOn t) (goes-closed t) v.node signal)
@@ -196,8 +197,8 @@ module _ (t : ℕ) where
         go None = steps-of v.node v.node s (goes-same v.node) s.sleeping
         go (Some Ecall) =
             let r = (thread_of v.node t).regs in
-            after-past (planned t frames r behind (plan (reg r 17) (arguments_of r)))
-            (planned-steps behind past-steps.sound (record x { regs = set_pc (x.regs.pc + 4) x.regs }) past-there stop stopped awake-stopped frames r (plan (reg r 17) (arguments_of r)))
+            after-past (called t frames r behind (call_named r))
+            (called-steps behind past-steps.sound (record x { regs = set_pc (x.regs.pc + 4) x.regs }) past-there stop stopped awake-stopped frames r (call_named r))
         go (Some On) = raise On
         go (Some Break) = raise Break
         go (Some Illegal) = raise Illegal

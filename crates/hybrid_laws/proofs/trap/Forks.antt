@@ -9,7 +9,7 @@ use Rattle.hybrid_laws.proofs.memory.Shapes.{shown-back, stored_all-rights}
 use Rattle.hybrid_laws.proofs.memory.Written.{each-entry, other-frames}
 use Rattle.hybrid_laws.proofs.node.EventKeeps.{past_ecall-keeps}
 use Rattle.hybrid_laws.proofs.node.Keeps.{Keeps, ThreadKeeps, is_pinned, node-keeps, thread-then}
-use Rattle.hybrid_laws.proofs.node.Primitives.{answered-free, at-change, put-new, then}
+use Rattle.hybrid_laws.proofs.node.Primitives.{answered-free, at-change, put-new}
 use Rattle.hybrid_laws.proofs.reap.Reap.{count-each, each-none}
 use Rattle.hybrid_laws.proofs.trap.Says.{ForkSays}
 use Rattle.hybrid_laws.specs.OneProcess.{FramesOf, with_table}

@@ -26,7 +26,6 @@ use Rattle.hybrid_model.specs.Sides.{Row, Side, new_side}
 use Rattle.hybrid_model.specs.Spaces.{Space, copied_pages, first_number, frame_bytes, page_at_lowest, rest_numbers, shown_memory, shown_row}
 use Rattle.hybrid_model.specs.Tallies.{if_same}
 use Rattle.isa_model.specs.Memory.{Memory, Page}
-use Rattle.isa_model.specs.Registers.{reg}
 use Rattle.kernel_model.specs.MemoryCalls.{Effect, effect_of}
 use Rattle.kernel_model.specs.Nodes.{Node, Thread, is_there, process_of, thread_of}
 use Rattle.kernel_model.specs.OneKernel.{OneHere, Own}
@@ -99,7 +98,7 @@ module _ (pair : Pair) (c : Coherent pair) (t : Tid) (allowed : may pair (Events
     said = subst (TrappedSays t.0 (length pair.free) (view_here h)) is (trap-says t.0 (length pair.free) (view_here h))
 
     now : NowSays (process_of node p) (memory_here h) (length h.free) change
-    now = says p t.0 h x own-process node change said.0 (reg (call_regs t.0 pair.node) 17) (arguments_of (call_regs t.0 pair.node)) said.1
+    now = says p t.0 h x own-process node change said.0 said.1 (arguments_of (call_regs t.0 pair.node)) said.2
 
     abbrev eff : Effect
     eff = effect_of (process_of node p) change

@@ -10,17 +10,15 @@ use Rattle.hybrid_laws.specs.OneProcess.{NodeHolds}
 use Rattle.hybrid_model.specs.Globals.{Sleeping}
 use Rattle.hybrid_model.specs.Tallies.{Each}
 use Rattle.isa_model.specs.Memory.{may_access}
-use Rattle.isa_model.specs.Registers.{reg}
 use Rattle.isa_model.specs.declared.stops.Stop.TheVariants.{Break, Ecall, Illegal, Misaligned, On, Fault as StopFault}
 use Rattle.isa_model.specs.declared.stops.Stop.{Stop}
-use Rattle.kernel_model.specs.Calls.{local_call, one_of_calls}
+use Rattle.kernel_model.specs.Calls.{clone_call, local_call, one_of_calls}
 use Rattle.kernel_model.specs.CloneCalls.{CallDone, are_fork_flags, clone, clone_or_fork, forks, parent_number, with_child}
 use Rattle.kernel_model.specs.LocalCalls.{answers, exit_code, refuses}
 use Rattle.kernel_model.specs.MemoryCalls.{Reply as DecidedReply, Round as DecidedRound, Decision, Now, decide}
 use Rattle.kernel_model.specs.Nodes.{Node, Sleeper, Thread, answered, is_asleep, most_processes, process_of, set_pc, stop_in, thread_of}
-use Rattle.kernel_model.specs.Plans.{Delegated, Local, Plan, Unknown, Vm, plan}
 use Rattle.kernel_model.specs.Signals.{View, on_node, raised, signal_of_stop, store}
-use Rattle.kernel_model.specs.Traps.{Begins, Changes, Forks, Trapped, arguments_of, cloned, decided, past_ecall, planned, trap, trap_of_stop, Done}
+use Rattle.kernel_model.specs.Traps.{Begins, Changes, Forks, Trapped, arguments_of, call_named, called, cloned, decided, past_ecall, trap, trap_of_stop, Done}
 use Rattle.kernel_model.specs.declared.Does.TheVariants.{Asleep, Called, InVm, InWait, Ready, Stopped}
 use Rattle.kernel_model.specs.declared.Does.{Does}
 use Rattle.mck_word.specs.Maps.{at, change, count}
@@ -30,6 +28,10 @@ use Rattle.mck_word.specs.declared.Regs.{Regs}
 use Rattle.std.proofs.Common.{ap, arith, refl, sym, ◌∙◌}
 use Rattle.std.proofs.lemmas.Bool.Decides.{nat_tests}
 use Rattle.std.specs.Prelude.{Bool, List, None, Option, Some, [], cond, false, get_or, length, nat_le, nat_lt, option_map, pos, slice_get, suc, true, ℕ, ◌%◌, ◌+◌, ◌==◌, ◌^◌, ◌||◌, ◌∷◌, ◌≡◌, ◌≢◌}
+use Rattle.system_calls.specs.declared.LocalCall.TheVariants as Calls
+use Rattle.system_calls.specs.declared.LocalCall.{LocalCall}
+use Rattle.system_calls.specs.declared.SystemCall.TheVariants.{Clone, File, Local, Memory}
+use Rattle.system_calls.specs.declared.SystemCall.{SystemCall}
 
 pub next-new : (node : Node) → NodeHolds node → at node.threads node.next_number ≡ None
 next-new node h = go (at node.threads node.next_number) refl
@@ -107,45 +109,43 @@ module _ (p : ℕ) (free : ℕ → Bool) where
         go true false false = forks-keeps flags stack parent_tid tls child_tid v none
         go false c d = clone-keeps flags stack parent_tid tls child_tid v none
 
-    calls-keeps : (number : ℕ) (a : ℕ → ℕ) (v : View) → SleepersFree free v.node → Keeps p free v.node (one_of_calls t number a v).node
-    calls-keeps number a v h =
-        let o = either-view p free {a = v.node} in
-        o _ _ _ (exits-keeps p free t e (exit_code (a 0)) v h)
-        (o _ _ _ (exits_group-keeps p free t e (exit_code (a 0)) v)
-        (o _ _ _ (sets_clear_address-keeps p free t e (a 0) v)
-        (o _ _ _ (futex-keeps p free t e (a 0) (a 1) (a 2) (a 3) v h)
-        (o _ _ _ (sets_robust_list-keeps p free t e (a 1) v)
-        (o _ _ _ (answers-keeps p free t e (pos 0) v)
-        (o _ _ _ (kill-keeps p free t e (int_argument (a 0)) (int_argument (a 1)) v)
-        (o _ _ _ (tgkill-keeps p free t e (int_argument (a 0)) (int_argument (a 1)) (int_argument (a 2)) v)
-        (o _ _ _ (sigaction-keeps p free t e (int_argument (a 0)) (a 1) (a 2) (a 3) v)
-        (o _ _ _ (sigprocmask-keeps p free t e (int_argument (a 0)) (a 1) (a 2) (a 3) v)
-        (o _ _ _ (sigpending-keeps p free t e (a 0) (a 1) v)
-        (o _ _ _ (return-keeps p free t e v)
-        (o _ _ _ (answers-keeps p free t e (pos (thread_of v.node t).process) v)
-        (o _ _ _ (answers-keeps p free t e (pos (parent_number v.node (thread_of v.node t).process)) v)
-        (o _ _ _ (answers-keeps p free t e (pos t) v)
-        (wait4-keeps p free t e (int_argument (a 0)) (a 1) (a 2 % 2 ^ 32) (a 3) v)))))))))))))))
+    calls-keeps : (call : LocalCall) (a : ℕ → ℕ) (v : View) → SleepersFree free v.node → Keeps p free v.node (one_of_calls t call a v).node
+    calls-keeps Calls.Exit a v h = exits-keeps p free t e (exit_code (a 0)) v h
+    calls-keeps Calls.ExitGroup a v h = exits_group-keeps p free t e (exit_code (a 0)) v
+    calls-keeps Calls.SetTidAddress a v h = sets_clear_address-keeps p free t e (a 0) v
+    calls-keeps Calls.Futex a v h = futex-keeps p free t e (a 0) (a 1) (a 2) (a 3) v h
+    calls-keeps Calls.SetRobustList a v h = sets_robust_list-keeps p free t e (a 1) v
+    calls-keeps Calls.SchedYield a v h = answers-keeps p free t e (pos 0) v
+    calls-keeps Calls.Kill a v h = kill-keeps p free t e (int_argument (a 0)) (int_argument (a 1)) v
+    calls-keeps Calls.Tgkill a v h = tgkill-keeps p free t e (int_argument (a 0)) (int_argument (a 1)) (int_argument (a 2)) v
+    calls-keeps Calls.RtSigaction a v h = sigaction-keeps p free t e (int_argument (a 0)) (a 1) (a 2) (a 3) v
+    calls-keeps Calls.RtSigprocmask a v h = sigprocmask-keeps p free t e (int_argument (a 0)) (a 1) (a 2) (a 3) v
+    calls-keeps Calls.RtSigpending a v h = sigpending-keeps p free t e (a 0) (a 1) v
+    calls-keeps Calls.RtSigreturn a v h = return-keeps p free t e v
+    calls-keeps Calls.Getpid a v h = answers-keeps p free t e (pos (thread_of v.node t).process) v
+    calls-keeps Calls.Getppid a v h = answers-keeps p free t e (pos (parent_number v.node (thread_of v.node t).process)) v
+    calls-keeps Calls.Gettid a v h = answers-keeps p free t e (pos t) v
+    calls-keeps Calls.Wait4 a v h = wait4-keeps p free t e (int_argument (a 0)) (a 1) (a 2 % 2 ^ 32) (a 3) v
 
-    local-keeps : (frames number : ℕ) (arguments : List ℕ) (v : View) → SleepersFree free v.node → at v.node.threads v.node.next_number ≡ None → TrappedKeeps v.node (cloned (local_call t frames number arguments v))
+    local-keeps : (call : LocalCall) (arguments : List ℕ) (v : View) → SleepersFree free v.node → Keeps p free v.node (local_call t call arguments v).node
     unfolding local_call
-    local-keeps frames number arguments v h none = go (number == 220) (clone_or_fork-keeps frames (get_or arguments 0 0) (get_or arguments 1 0) (get_or arguments 2 0) (get_or arguments 3 0) (get_or arguments 4 0) v none) (calls-keeps number (λ k. get_or arguments k 0) v h)
-      where
-        go : (b : Bool) → TrappedKeeps v.node (cloned (clone_or_fork t frames (get_or arguments 0 0) (get_or arguments 1 0) (get_or arguments 2 0) (get_or arguments 3 0) (get_or arguments 4 0) v)) → Keeps p free v.node (one_of_calls t number (λ k. get_or arguments k 0) v).node
-            → TrappedKeeps v.node (cloned (cond b (clone_or_fork t frames (get_or arguments 0 0) (get_or arguments 1 0) (get_or arguments 2 0) (get_or arguments 3 0) (get_or arguments 4 0) v) (CallDone (one_of_calls t number (λ k. get_or arguments k 0) v))))
-        go true k l = k
-        go false k l = l
+    local-keeps call arguments v h = calls-keeps call (λ k. get_or arguments k 0) v h
+
+    clone_call-keeps : (frames : ℕ) (arguments : List ℕ) (v : View) → at v.node.threads v.node.next_number ≡ None → TrappedKeeps v.node (cloned (clone_call t frames arguments v))
+    unfolding clone_call
+    clone_call-keeps frames arguments v none = clone_or_fork-keeps frames (get_or arguments 0 0) (get_or arguments 1 0) (get_or arguments 2 0) (get_or arguments 3 0) (get_or arguments 4 0) v none
 
     decided-keeps : (v : View) (d : Decision) → TrappedKeeps v.node (decided t v d)
     decided-keeps v (DecidedReply answer) = answers-keeps p free t e answer v
     decided-keeps v (Now change) = same-node p free v.node
     decided-keeps v (DecidedRound change) = does-free p free v.node t (InVm change) e refl
 
-    planned-keeps : (frames : ℕ) (r : Regs) (v : View) → SleepersFree free v.node → at v.node.threads v.node.next_number ≡ None → (is : Plan) → TrappedKeeps v.node (planned t frames r v is)
-    planned-keeps frames r v h none Unknown = answers-keeps p free t e (refused ENOSYS) v
-    planned-keeps frames r v h none Local = local-keeps frames (reg r 17) (arguments_of r) v h none
-    planned-keeps frames r v h none Vm = decided-keeps v (decide (process_of v.node (thread_of v.node t).process) v.memory frames (reg r 17) (arguments_of r))
-    planned-keeps frames r v h none (Delegated phases) = same-node p free v.node
+    called-keeps : (frames : ℕ) (r : Regs) (v : View) → SleepersFree free v.node → at v.node.threads v.node.next_number ≡ None → (o : Option SystemCall) → TrappedKeeps v.node (called t frames r v o)
+    called-keeps frames r v h none None = answers-keeps p free t e (refused ENOSYS) v
+    called-keeps frames r v h none (Some Clone) = clone_call-keeps frames (arguments_of r) v none
+    called-keeps frames r v h none (Some (Local call)) = local-keeps call (arguments_of r) v h
+    called-keeps frames r v h none (Some (Memory call)) = decided-keeps v (decide (process_of v.node (thread_of v.node t).process) v.memory frames call (arguments_of r))
+    called-keeps frames r v h none (Some (File call)) = same-node p free v.node
 
     trapped-then : (a b : Node) (x : Trapped) → Keeps p free a b → TrappedKeeps b x → TrappedKeeps a x
     trapped-then a b (Done v) k l = then p free k l
@@ -171,8 +171,8 @@ module _ (p : ℕ) (free : ℕ → Bool) where
         go None = same-node p free v.node
         go (Some Ecall) =
             let r = (thread_of v.node t).regs in
-            trapped-then v.node (past_ecall t v).node (planned t frames r (past_ecall t v) (plan (reg r 17) (arguments_of r))) (past_ecall-keeps p free v.node t)
-            (planned-keeps frames r (past_ecall t v) h (still-new v none) (plan (reg r 17) (arguments_of r)))
+            trapped-then v.node (past_ecall t v).node (called t frames r (past_ecall t v) (call_named r)) (past_ecall-keeps p free v.node t)
+            (called-keeps frames r (past_ecall t v) h (still-new v none) (call_named r))
         go (Some On) = raise On
         go (Some Break) = raise Break
         go (Some Illegal) = raise Illegal

@@ -1,15 +1,13 @@
 -- A Request posted to its thread's ring keeps what is said of the messages of each place.
 use Rattle.hybrid_laws.proofs.maps.Reading.{Each-both, Each-map, Each-push, EachRing-both}
-use Rattle.hybrid_laws.proofs.node.Primitives.{then}
 use Rattle.hybrid_model.specs.Coherence.{IsPart, is_of_place, is_posted, of_place, Answered, CallsAgree, InOwnRing, Placed, RequestIs, calls_it, is_live, place_in, state_at, tid_in, AtMostInterrupt, Messages, OnlyOwn}
 use Rattle.hybrid_model.specs.Rings.{post}
 use Rattle.hybrid_model.specs.Sides.{Caller}
 use Rattle.hybrid_model.specs.Tallies.{Reads, Each, EachNumbered, with_at, EachRing}
-use Rattle.ikc_ring.specs.declared.Call.{Call}
+use Rattle.ikc_ring.specs.declared.CallRequest.{CallRequest}
 use Rattle.ikc_ring.specs.declared.Msg.TheVariants.{Request, Clear, Answer, Interrupt, Reply, Ack, Fault}
 use Rattle.ikc_ring.specs.declared.Msg.{Msg}
 use Rattle.kernel_model.specs.Nodes.{Thread}
-use Rattle.mck_word.specs.Maps.{at}
 use Rattle.request_book.specs.declared.ReqState.TheVariants.{Posted}
 use Rattle.request_book.specs.declared.ReqState.{ReqState}
 use Rattle.std.proofs.Common.{arith, refl, sym, ◌∙◌, ap, subst}
@@ -41,7 +39,7 @@ NoRequest (Request c) = ⊥
 NoRequest _ = Unit {0}
 
 -- a Request behind the messages of its place, none of which is a Request
-push-part : (state state' : ℕ → ReqState) (next : ℕ) (L : List Msg) (c : Call) → Each (λ m. NoRequest m × IsGiven next m) L → ((n : ℕ) → n < next → is_posted (state n) ≡ 0 → is_posted (state' n) ≡ 0) → IsPart state L → IsPart state' (L ++ Request c ∷ [])
+push-part : (state state' : ℕ → ReqState) (next : ℕ) (L : List Msg) (c : CallRequest) → Each (λ m. NoRequest m × IsGiven next m) L → ((n : ℕ) → n < next → is_posted (state n) ≡ 0 → is_posted (state' n) ≡ 0) → IsPart state L → IsPart state' (L ++ Request c ∷ [])
 push-part state state' next [] c nr f h = tt
 push-part state state' next (Interrupt n place ∷ []) c nr f h = (f n.0 nr.0.1 h.0, tt)
 push-part state state' next (Interrupt n place ∷ Request x ∷ ms) c nr f h = absurd nr.1.0.0
@@ -67,10 +65,10 @@ Each-place P threads k (m ∷ ms) h = go (is_of_place threads k m) refl (Each-pl
     go true e r = ((h.0, e), r)
     go false e r = r
 
-module _ (p : ℕ) (rows : Reads (ReqState × Call)) (threads threads' : Reads Thread) (ring_of : ℕ → ℕ) (callers : Reads Caller) (q : ℕ) (bs : List Msg) (a : Answered rows callers q bs) (g : CallsAgree p threads callers)
+module _ (p : ℕ) (rows : Reads (ReqState × CallRequest)) (threads threads' : Reads Thread) (ring_of : ℕ → ℕ) (callers : Reads Caller) (q : ℕ) (bs : List Msg) (a : Answered rows callers q bs) (g : CallsAgree p threads callers)
     (t : ℕ) (x y : Thread) (there : threads t ≡ Some x) (mine : x.process ≡ p) (now : threads' t ≡ Some y) (place : y.place ≡ x.place) (others : (u : ℕ) → u ≢ t → threads' u ≡ threads u)
-    (apart : (u v : ℕ) (d e : Thread) → threads u ≡ Some d → threads v ≡ Some e → d.process ≡ e.process → d.place ≡ e.place → u ≡ v) (idle : callers t ≡ None) (c : Call) (number : c.q.0 ≡ q) (tid : c.tid.0 ≡ t) where
-  abbrev rows' : Reads (ReqState × Call)
+    (apart : (u v : ℕ) (d e : Thread) → threads u ≡ Some d → threads v ≡ Some e → d.process ≡ e.process → d.place ≡ e.place → u ≡ v) (idle : callers t ≡ None) (c : CallRequest) (number : c.q.0 ≡ q) (tid : c.tid.0 ≡ t) where
+  abbrev rows' : Reads (ReqState × CallRequest)
   rows' = with_at rows q (Some (Posted, c))
 
   abbrev callers' : Reads Caller

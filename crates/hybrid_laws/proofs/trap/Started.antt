@@ -1,32 +1,25 @@
--- A delegated call that begins is under way: it has phases, one act among them, and has found no description.
-use Rattle.kernel_model.specs.Plans as Phases
-use Rattle.hybrid_laws.proofs.calls.Laws.{by-member}
-use Rattle.hybrid_model.specs.Globals.{IsUnderWay, acts_left}
-use Rattle.kernel_model.specs.Plans.{Delegated, delegated_calls, plan}
+-- A call on files that begins is under way: it has phases, one act among them, and has found no description.
+use Rattle.hybrid_model.specs.Globals.{IsUnderWay}
+use Rattle.kernel_model.specs.CallPhases.{phases_of}
 use Rattle.kernel_model.specs.Progress.{starting}
-use Rattle.mck_word.specs.Lists.{member}
-use Rattle.std.proofs.Common.{arith, refl, subst}
-use Rattle.std.specs.Prelude.{Bool, List, cond, false, length, true, ℕ, ◌≡◌, ◌≤◌}
+use Rattle.std.proofs.Common.{arith}
+use Rattle.std.specs.Prelude.{List, ℕ}
+use Rattle.system_calls.specs.declared.file_calls.FileCall.TheVariants.{Close, Fstat, Getdents64, Ioctl, Lseek, Mkdirat, Openat, Pipe2, Pread64, Pwrite64, Read, Readv, Unlinkat, Write, Writev}
+use Rattle.system_calls.specs.declared.file_calls.FileCall.{FileCall}
 
-pub record Begins (phases : List Phases.Phase) : Type 0 where
-  pub left : 1 ≤ length phases
-  pub act : acts_left phases ≡ 1
-
-plan-is : (number : ℕ) (arguments : List ℕ) (phases : List Phases.Phase) → plan number arguments ≡ Delegated phases → (member number delegated_calls ≡ true) × (Phases.phases_of number arguments ≡ phases)
-plan-is number arguments phases e = go (member number Phases.local_calls) (member number Phases.memory_calls) (member number delegated_calls) refl e
-  where
-    go : (a b d : Bool) → member number delegated_calls ≡ d → cond a Phases.Local (cond b Phases.Vm (cond d (Delegated (Phases.phases_of number arguments)) Phases.Unknown)) ≡ Delegated phases → (member number delegated_calls ≡ true) × (Phases.phases_of number arguments ≡ phases)
-    go true b d f u = absurd (grind (arith, u))
-    go false true d f u = absurd (grind (arith, u))
-    go false false false f u = absurd (grind (arith, u))
-    go false false true f u = (f, (let y : Phases.phases_of number arguments ≡ phases = cc in y))
-
--- each of the calls has phases with one act
-each-begins : (number : ℕ) (arguments : List ℕ) → member number delegated_calls ≡ true → Begins (Phases.phases_of number arguments)
-each-begins number arguments e = by-member (λ n. Begins (Phases.phases_of n arguments)) delegated_calls (record { left = omega arith; act = refl }, (record { left = omega arith; act = refl }, (record { left = omega arith; act = refl }, (record { left = omega arith; act = refl }, (record { left = omega arith; act = refl }, (record { left = omega arith; act = refl }, (record { left = omega arith; act = refl }, (record { left = omega arith; act = refl }, (record { left = omega arith; act = refl }, (record { left = omega arith; act = refl }, (record { left = omega arith; act = refl }, (record { left = omega arith; act = refl }, (record { left = omega arith; act = refl }, (record { left = omega arith; act = refl }, (record { left = omega arith; act = refl }, tt))))))))))))))) number e
-
-pub starts-under-way : (number : ℕ) (arguments : List ℕ) (phases : List Phases.Phase) → plan number arguments ≡ Delegated phases → IsUnderWay (starting number arguments phases)
-starts-under-way number arguments phases e =
-    let a = plan-is number arguments phases e in
-    let b = subst Begins a.1 (each-begins number arguments a.0) in
-    record { delegated = a.0; phases = b.left; acts = omega (arith, b.act) }
+pub starts-under-way : (call : FileCall) (arguments : List ℕ) → IsUnderWay (starting call arguments (phases_of call arguments))
+starts-under-way Openat arguments = record { phases = omega arith; acts = omega arith }
+starts-under-way Mkdirat arguments = record { phases = omega arith; acts = omega arith }
+starts-under-way Unlinkat arguments = record { phases = omega arith; acts = omega arith }
+starts-under-way Close arguments = record { phases = omega arith; acts = omega arith }
+starts-under-way Lseek arguments = record { phases = omega arith; acts = omega arith }
+starts-under-way Ioctl arguments = record { phases = omega arith; acts = omega arith }
+starts-under-way Pipe2 arguments = record { phases = omega arith; acts = omega arith }
+starts-under-way Fstat arguments = record { phases = omega arith; acts = omega arith }
+starts-under-way Getdents64 arguments = record { phases = omega arith; acts = omega arith }
+starts-under-way Read arguments = record { phases = omega arith; acts = omega arith }
+starts-under-way Readv arguments = record { phases = omega arith; acts = omega arith }
+starts-under-way Write arguments = record { phases = omega arith; acts = omega arith }
+starts-under-way Writev arguments = record { phases = omega arith; acts = omega arith }
+starts-under-way Pread64 arguments = record { phases = omega arith; acts = omega arith }
+starts-under-way Pwrite64 arguments = record { phases = omega arith; acts = omega arith }

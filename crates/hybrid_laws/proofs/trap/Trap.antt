@@ -24,10 +24,7 @@ use Rattle.hybrid_model.specs.Pairs.{Here, ring_of}
 use Rattle.hybrid_model.specs.Shown.{shown_here}
 use Rattle.hybrid_model.specs.Sides.{Row, Side, new_side}
 use Rattle.hybrid_model.specs.Tallies.{Reads}
-use Rattle.isa_model.specs.Registers.{reg}
 use Rattle.kernel_model.specs.Nodes.{Thread, is_asleep, is_living, is_stopped, thread_of}
-use Rattle.kernel_model.specs.Plans.{plan}
-use Rattle.kernel_model.specs.Progress.{Progress, starting}
 use Rattle.kernel_model.specs.Traps.{Begins, Changes, Done, Forks, Trapped, arguments_of, trap}
 use Rattle.mck_word.specs.Maps.{at}
 use Rattle.mck_word.specs.declared.Tid.{Tid}
@@ -79,7 +76,7 @@ module _ (p : ℕ) (t : Tid) (h : Here) (m : may_here (Events.Trap t) h ≡ true
       go (Done v) s f = node-keeps p free h.side h.node v.node workers (ring_of h) f (idle p) k
       go (Forks v child stores) s f = node-keeps p free h.side h.node v.node workers (ring_of h) (f (λ e. (let n = s.number in let l = old in omega (arith, e, n, l)))) (idle p) k
       go (Begins new progress) s f = keeps_begins p t.0 h x progress new s.0 workers own nodes rings k
-      go (Changes new c) s f = keeps_changes p t.0 h x own new c s.0 (reg (call_regs t.0 h.node) 17) (arguments_of (call_regs t.0 h.node)) s.1 workers (ring_of h) k
+      go (Changes new c) s f = keeps_changes p t.0 h x own new c s.0 s.1 (arguments_of (call_regs t.0 h.node)) s.2 workers (ring_of h) k
 
   pub others_trap : (q : ℕ) (side : Side) (workers : ℕ) (ring : ℕ → ℕ) → p ≢ q → q ≢ h.node.next_number → OfProcess q side h.node workers ring → OfProcess q side (after_here (Events.Trap t) p h).node workers ring
   unfolding after_trap
@@ -89,7 +86,7 @@ module _ (p : ℕ) (t : Tid) (h : Here) (m : may_here (Events.Trap t) h ≡ true
       go (Done v) s f = node-keeps q free side h.node v.node workers ring f (idle q) k
       go (Forks v child stores) s f = node-keeps q free side h.node v.node workers ring (f (λ e. not_new (e ∙ s.number))) (idle q) k
       go (Begins new progress) s f = others_begins p t.0 h x progress new s.0 q side workers ring (λ e. other (sym own ∙ e)) k
-      go (Changes new c) s f = others_changes p t.0 h x own new c s.0 (reg (call_regs t.0 h.node) 17) (arguments_of (call_regs t.0 h.node)) s.1 q side workers ring k
+      go (Changes new c) s f = others_changes p t.0 h x own new c s.0 s.1 (arguments_of (call_regs t.0 h.node)) s.2 q side workers ring k
 
   -- a process that begins has the next number
   pub born_trap : (workers : ℕ) (ring : ℕ → ℕ) → h.born ≡ None → OfProcess h.node.next_number (new_side 0) h.node workers ring → (b : ℕ × Side) → (after_here (Events.Trap t) p h).born ≡ Some b
@@ -118,5 +115,4 @@ module _ (p : ℕ) (t : Tid) (h : Here) (m : may_here (Events.Trap t) h ≡ true
       go (Done v) s = shown-view h v (own-apart tables p (space_here h) frames) none
       go (Forks v child stores) s = shown_forks p t.0 h v child stores s tables frames (λ e. (let n = s.number in let l = old in omega (arith, e, n, l))) none
       go (Begins new progress) s = shown_begins p t.0 h x progress new s.0 workers k s.1
-          (ap (λ (y : Progress). plan y.number y.arguments) s.3 ∙ s.2) (s.3 ∙ ap (λ (y : Progress). starting y.number y.arguments s.1) (sym s.3))
-      go (Changes new c) s = shown_changes p t.0 h x own new c s.0 (reg (call_regs t.0 h.node) 17) (arguments_of (call_regs t.0 h.node)) s.1 tables frames none
+      go (Changes new c) s = shown_changes p t.0 h x own new c s.0 s.1 (arguments_of (call_regs t.0 h.node)) s.2 tables frames none

@@ -27,7 +27,7 @@ use Rattle.hybrid_laws.specs.Stopped.{stops}
 use Rattle.hybrid_model.specs.Coherence.{OfProcess}
 use Rattle.hybrid_model.specs.Events.{after, may, may_here}
 use Rattle.hybrid_model.specs.Globals.{CallsHold, Coherent, IsUnderWay, StatusHolds, description_held, holders, is_number, ring_number, table_of, waits_or_held}
-use Rattle.hybrid_model.specs.Fetch.{first_progress, phases_in}
+use Rattle.hybrid_model.specs.Fetch.{first_progress}
 use Rattle.hybrid_model.specs.Turns.{pipe_end}
 use Rattle.hybrid_model.specs.OneProcess.{memory_here, ran_last, view_here, with_view}
 use Rattle.hybrid_model.specs.Trap.{after_trap, begin_call, call_made, trapped}
@@ -36,12 +36,11 @@ use Rattle.hybrid_model.specs.Rings.{post}
 use Rattle.hybrid_model.specs.Shown.{shown_own, status_by, status_of}
 use Rattle.hybrid_model.specs.Sides.{Caller, Side, service_of, state_in, state_of}
 use Rattle.hybrid_model.specs.Tallies.{Reads}
-use Rattle.ikc_ring.specs.declared.Call.{Call}
+use Rattle.ikc_ring.specs.declared.CallRequest.{CallRequest}
 use Rattle.ikc_ring.specs.declared.Msg.TheVariants.{Request}
 use Rattle.kernel_model.specs.Nodes.{Node, Thread, is_asleep, is_called, is_stopped, is_there, set_does, set_pc, thread_of}
 use Rattle.kernel_model.specs.OneKernel.{Active}
-use Rattle.kernel_model.specs.Plans.{Delegated, Plan, plan}
-use Rattle.kernel_model.specs.Progress.{Progress, starting}
+use Rattle.kernel_model.specs.Progress.{Progress}
 use Rattle.kernel_model.specs.Signals.{View, stored_all}
 use Rattle.kernel_model.specs.Traps.{Begins, Done, Trapped, past_ecall, trap}
 use Rattle.kernel_model.specs.declared.Does.TheVariants.{Called}
@@ -178,7 +177,7 @@ module _ (pair : Pair) (c : Coherent pair) (t : Tid) (e : may pair (Events.Trap 
     idle : at old.lwk.callers t.0 ≡ None
     idle = no-none (at old.lwk.callers t.0) (ap not (sym (k.calls.called t.0 x.thread x.there own-process) ∙ ap is_called x.stopped))
 
-    abbrev call : Call
+    abbrev call : CallRequest
     call = call_made old.book.next t.0 progress
 
     abbrev caller : Caller
@@ -187,12 +186,12 @@ module _ (pair : Pair) (c : Coherent pair) (t : Tid) (e : may pair (Events.Trap 
     -- the statuses
     own-status : status_of side old.book.next ≡ Active (first_progress call)
     unfolding begin_call
-    own-status = ap (λ (m : Reads (ReqState × Call)). status_by m (at old.linux.services) (at old.linux.workers) (post (ring_of h t.0) (Request call) old.to_linux) old.to_lwk old.book.next) (reads-put old.book.rows old.book.next (Posted, call))
+    own-status = ap (λ (m : Reads (ReqState × CallRequest)). status_by m (at old.linux.services) (at old.linux.workers) (post (ring_of h t.0) (Request call) old.to_linux) old.to_lwk old.book.next) (reads-put old.book.rows old.book.next (Posted, call))
         ∙ call_shown.status-own p old pair.node pair.workers (ring_number pair) k (ring_of h t.0) t.0 progress
 
     same-status : (u : ℕ) (y : Caller) → at old.lwk.callers u ≡ Some y → status_of side y.request ≡ status_of old y.request
     unfolding begin_call
-    same-status u y f = ap (λ (m : Reads (ReqState × Call)). status_by m (at old.linux.services) (at old.linux.workers) (post (ring_of h t.0) (Request call) old.to_linux) old.to_lwk y.request) (reads-put old.book.rows old.book.next (Posted, call))
+    same-status u y f = ap (λ (m : Reads (ReqState × CallRequest)). status_by m (at old.linux.services) (at old.linux.workers) (post (ring_of h t.0) (Request call) old.to_linux) old.to_lwk y.request) (reads-put old.book.rows old.book.next (Posted, call))
         ∙ call_shown.status-other p old pair.node pair.workers (ring_number pair) k (ring_of h t.0) t.0 progress u y f
 
     abbrev counts : ℕ → Side → ℕ × Caller → ℕ
@@ -208,9 +207,7 @@ module _ (pair : Pair) (c : Coherent pair) (t : Tid) (e : may pair (Events.Trap 
         omega (arith, a, b, z, w)
 
     under-way : IsUnderWay (first_progress call)
-    under-way =
-        let planned : plan progress.number progress.arguments ≡ Delegated says.1 = ap (λ (y : Progress). plan y.number y.arguments) says.3 ∙ says.2 in
-        subst (λ (is : Plan). IsUnderWay (starting progress.number progress.arguments (phases_in is))) (sym planned) (starts-under-way progress.number progress.arguments says.1 planned)
+    under-way = starts-under-way progress.call progress.arguments
 
     calls-hold : CallsHold side
     unfolding begin_call
@@ -222,14 +219,14 @@ module _ (pair : Pair) (c : Coherent pair) (t : Tid) (e : may pair (Events.Trap 
 
     turns-hold : (q : ℕ) → waits_or_held (state_of old.book q) ≡ true → (waits_or_held (state_of side.book q) ≡ true) × ((service_of side.linux.services q).progress ≡ (service_of old.linux.services q).progress)
     unfolding begin_call
-    turns-hold q u = (ap (λ (o : Option (ReqState × Call)). waits_or_held (state_in o)) (at-put old.book.rows old.book.next (Posted, call) q) ∙ go (q == old.book.next) refl, refl)
+    turns-hold q u = (ap (λ (o : Option (ReqState × CallRequest)). waits_or_held (state_in o)) (at-put old.book.rows old.book.next (Posted, call) q) ∙ go (q == old.book.next) refl, refl)
       where
         go : (b : Bool) → (q == old.book.next) ≡ b → waits_or_held (state_in (cond b (Some (Posted, call)) (at old.book.rows q))) ≡ true
         go false g = u
         go true g =
             let y : q ≡ old.book.next = grind (arith, nat_tests, g) in
             let n = ap (at old.book.rows) y ∙ k.answered.fresh old.book.next (omega arith) in
-            absurd (let w = sym (ap (λ (o : Option (ReqState × Call)). waits_or_held (state_in o)) n) ∙ u in grind (arith, w))
+            absurd (let w = sym (ap (λ (o : Option (ReqState × CallRequest)). waits_or_held (state_in o)) n) ∙ u in grind (arith, w))
 
     whole-is : trapped p t.0 (Begins new_node progress) h ≡ record h { side = side; node = node }
     whole-is = λ i. record h { side = side; node = set_does t.0 Called (says.0 i) }

@@ -29,7 +29,6 @@ use Rattle.hybrid_model.specs.Pairs.{Here, Pair, here, put_here, side_of}
 use Rattle.hybrid_model.specs.Shown.{shown_own}
 use Rattle.hybrid_model.specs.Sides.{Side, service_of}
 use Rattle.hybrid_model.specs.Spaces.{Space, after_effect, drop_page}
-use Rattle.isa_model.specs.Registers.{reg}
 use Rattle.kernel_model.specs.MemoryCalls.{Effect, answer_of_change, effect_of, most_heap}
 use Rattle.kernel_model.specs.Nodes.{Node, Process, Thread, is_ended, is_there, no_process, process_of, thread_of}
 use Rattle.kernel_model.specs.Spaces.{each_in}
@@ -39,6 +38,7 @@ use Rattle.mck_word.specs.Maps.{Map, at, put}
 use Rattle.mck_word.specs.declared.Tid.{Tid}
 use Rattle.std.proofs.Common.{ap, arith, refl, subst, sym, ◌∙◌}
 use Rattle.std.specs.Prelude.{List, Option, Some, length, true, unwrap_or, ℕ, ◌%◌, ◌+◌, ◌-◌, ◌≡◌, ◌≤◌}
+use Rattle.system_calls.specs.declared.MemoryCall.{MemoryCall}
 
 module _ (pair : Pair) (c : Coherent pair) (t : Tid) (allowed : may pair (Events.Trap t) ≡ true) (change : Change) where
   abbrev p : ℕ
@@ -75,14 +75,14 @@ module _ (pair : Pair) (c : Coherent pair) (t : Tid) (allowed : may pair (Events
     trap-said : TrappedSays t.0 (length pair.free) (view_here h) (Changes behind change)
     trap-said = subst (TrappedSays t.0 (length pair.free) (view_here h)) is (trap-says t.0 (length pair.free) (view_here h))
 
-    abbrev number : ℕ
-    number = reg (call_regs t.0 pair.node) 17
+    abbrev call : MemoryCall
+    call = trap-said.1
 
     abbrev arguments : List ℕ
     arguments = arguments_of (call_regs t.0 pair.node)
 
     now : NowSays (process_of behind p) (memory_here h) (length h.free) change
-    now = changes.says p t.0 h x own-process behind change refl number arguments trap-said.1
+    now = changes.says p t.0 h x own-process behind change refl call arguments trap-said.2
 
     abbrev e : Effect
     e = effect_of (process_of behind p) change
@@ -126,8 +126,8 @@ module _ (pair : Pair) (c : Coherent pair) (t : Tid) (allowed : may pair (Events
 
     keeping : Keeping pair c p there side done sp.frames sp.free last
     keeping = record {
-      own = keeps_changes p t.0 h x own-process behind change refl number arguments trap-said.1 pair.workers (ring_number pair) (c.whole p);
-      others = λ q d. others_changes p t.0 h x own-process behind change refl number arguments trap-said.1 q (side_of pair q) pair.workers (ring_number pair) (c.whole q);
+      own = keeps_changes p t.0 h x own-process behind change refl call arguments trap-said.2 pair.workers (ring_number pair) (c.whole p);
+      others = λ q d. others_changes p t.0 h x own-process behind change refl call arguments trap-said.2 q (side_of pair q) pair.workers (ring_number pair) (c.whole q);
       framed = framed-effect pair c p e fits none;
       rows_below = (below-after pair c p e fits none).rows;
       free_below = (below-after pair c p e fits none).free;

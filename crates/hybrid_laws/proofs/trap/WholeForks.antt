@@ -10,7 +10,6 @@ use Rattle.hybrid_laws.proofs.memory.Copying.{bytes_copied, length_copied, less-
 use Rattle.hybrid_laws.proofs.memory.EffectCounts.{Below, below-lowest}
 use Rattle.hybrid_laws.proofs.node.Goes.{IsAwake}
 use Rattle.hybrid_laws.proofs.node.Keeps.{node-keeps}
-use Rattle.hybrid_laws.proofs.node.Primitives.{then}
 use Rattle.hybrid_laws.proofs.node.Sound.{Sound, node-holds, sound-of}
 use Rattle.hybrid_laws.proofs.reap.Reap.{count-each}
 use Rattle.hybrid_laws.proofs.states.Born.{KeepingBorn, coherent-born}
@@ -41,7 +40,7 @@ use Rattle.hybrid_model.specs.Spaces.{Space, copied_pages, page_at_lowest, shown
 use Rattle.hybrid_model.specs.Tallies.{Reads}
 use Rattle.ikc_ring.specs.declared.Msg.{Msg}
 use Rattle.isa_model.specs.Memory.{Page}
-use Rattle.kernel_model.specs.CloneCalls.{forks, with_child}
+use Rattle.kernel_model.specs.CloneCalls.{with_child}
 use Rattle.kernel_model.specs.Nodes.{Node, Process, Thread, has_process, instructions_in_all, is_asleep, is_ended, is_stopped, is_there, set_pc, thread_of}
 use Rattle.kernel_model.specs.Pages.{zero_page}
 use Rattle.kernel_model.specs.Signals.{Store, View, stored_all}

@@ -24,7 +24,7 @@ use Rattle.hybrid_model.specs.Shown.{shown_born, shown_call, shown_here}
 use Rattle.hybrid_model.specs.Sides.{Caller, Noted, Service, Side, call_in, service_of, state_of, with_state}
 use Rattle.hybrid_model.specs.Spaces.{shown_memory}
 use Rattle.hybrid_model.specs.Tallies.{Reads, if_same, with_at}
-use Rattle.ikc_ring.specs.declared.Call.{Call}
+use Rattle.ikc_ring.specs.declared.CallRequest.{CallRequest}
 use Rattle.ikc_ring.specs.declared.Msg.{Msg}
 use Rattle.kernel_model.specs.OneKernel.{Active, Blocked}
 use Rattle.kernel_model.specs.Progress.{is_file_step, is_not_ready, is_ready, next_kind}
@@ -39,7 +39,7 @@ use Rattle.std.proofs.lemmas.Bool.Decides.{nat_tests}
 use Rattle.std.specs.Prelude.{Bool, List, Option, Some, [], false, length, not, true, ℕ, ◌&&◌, ◌++◌, ◌==◌, ◌||◌, ◌∷◌, ◌≡◌}
 
 pub record MayUnpark (p : ℕ) (h : Here) (q : ℕ) : Type 0 where
-  pub call : Call
+  pub call : CallRequest
   pub is : at h.side.book.rows q ≡ Some (Parked, call)
   pub wakes : ((service_of h.side.linux.services q).interrupted || not (is_not_ready (next_kind h.node.files (service_of h.side.linux.services q).progress))) ≡ true
 
@@ -58,8 +58,8 @@ may-unpark p h n e =
     let c = parked-in h.side.linux h.side.book n.0 a.0 in
     record { call = c.0; is = c.1; wakes = wakes-if k.interrupted (not (other_has_turn h.turns (pipe_end h.node.files k.progress) p n.0)) kind a.1 }
 
-module _ (worker_count : ℕ) (workers : Reads ℕ) (rows : Reads (ReqState × Call)) (services : Reads Service) (pins : Reads Pin) (waiting : List ℕ) (noted : Reads Noted) (rings : List (List Msg)) (bs : List Msg) (c : Served worker_count workers rows services pins waiting noted rings bs) (q : ℕ) (call : Call) (is : rows q ≡ Some (Parked, call)) where
-  abbrev rows' : Reads (ReqState × Call)
+module _ (worker_count : ℕ) (workers : Reads ℕ) (rows : Reads (ReqState × CallRequest)) (services : Reads Service) (pins : Reads Pin) (waiting : List ℕ) (noted : Reads Noted) (rings : List (List Msg)) (bs : List Msg) (c : Served worker_count workers rows services pins waiting noted rings bs) (q : ℕ) (call : CallRequest) (is : rows q ≡ Some (Parked, call)) where
+  abbrev rows' : Reads (ReqState × CallRequest)
   rows' = with_at rows q (Some (Waiting, call))
 
   not-served : (v n : ℕ) → workers v ≡ Some n → (n == q) ≡ false
@@ -136,4 +136,4 @@ module _ (p : ℕ) (h : Here) (ring_number : ℕ → ℕ) (k : OfProcess p h.sid
 
   pub simulates_unpark : Simulated (Events.Unpark (record { 0 = p }) n) p h
   simulates_unpark = simulated-one (Events.Unpark (record { 0 = p }) n) p h (Steps.Wake m.call.tid)
-      (ap (λ (o : Option (ReqState × Call)). one_step (Steps.Wake (tid (call_in o).tid.0))) m.is) step-may step-after
+      (ap (λ (o : Option (ReqState × CallRequest)). one_step (Steps.Wake (tid (call_in o).tid.0))) m.is) step-may step-after

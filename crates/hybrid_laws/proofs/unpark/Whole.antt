@@ -18,7 +18,7 @@ use Rattle.hybrid_model.specs.Pairs.{Here, Pair, here}
 use Rattle.hybrid_model.specs.Shown.{has_empty, reply_code, status_in, status_of}
 use Rattle.hybrid_model.specs.Sides.{Side, Turn, call_in, service_of, state_in, state_of, with_state}
 use Rattle.hybrid_model.specs.Tallies.{Reads, with_at}
-use Rattle.ikc_ring.specs.declared.Call.{Call}
+use Rattle.ikc_ring.specs.declared.CallRequest.{CallRequest}
 use Rattle.kernel_model.specs.Nodes.{Thread, is_there, no_thread, thread_of}
 use Rattle.kernel_model.specs.OneKernel.{Active, Blocked}
 use Rattle.mck_word.specs.MapLaws.{at-put}
@@ -57,7 +57,7 @@ module _ (pair : Pair) (c : Coherent pair) (q : Pid) (n : Req) (e : may pair (Ev
   end = pipe_end h.node.files (service_of h.side.linux.services n.0).progress
 
   rows-now : (x : ℕ) → at side'.book.rows x ≡ with_at (at h.side.book.rows) n.0 (Some (Waiting, m.call)) x
-  rows-now x = ap (λ (f : Reads (ReqState × Call)). f x) (reads-stated Waiting n.0 h.side.book.rows m.call Parked m.is)
+  rows-now x = ap (λ (f : Reads (ReqState × CallRequest)). f x) (reads-stated Waiting n.0 h.side.book.rows m.call Parked m.is)
 
   waits-now : waits_or_held (state_of side'.book n.0) ≡ true
   waits-now = ap (λ o. waits_or_held (state_in o)) (rows-now n.0) ∙ (let b : (n.0 == n.0) ≡ true = grind (arith, nat_tests) in rw b refl)
@@ -130,4 +130,4 @@ module _ (pair : Pair) (c : Coherent pair) (q : Pid) (n : Req) (e : may pair (Ev
   pub simulated_unpark : SimulatedPair pair (Events.Unpark q n)
   unfolding unpark_here
   simulated_unpark = simulated-pair pair p (has-side pair c.known p there) (Events.Unpark q n) refl (simulates_unpark p h (ring_number pair) k n allowed)
-      (ap (λ (o : Option (ReqState × Call)). (thread_of pair.node (call_in o).tid.0).process) m.is ∙ thread-own) refl (λ x s n f. refl)
+      (ap (λ (o : Option (ReqState × CallRequest)). (thread_of pair.node (call_in o).tid.0).process) m.is ∙ thread-own) refl (λ x s n f. refl)

@@ -9,10 +9,10 @@ pub returns-clause-fits : goal.returns-clause-fits
 returns-clause-fits c =
     let p : Process = record no_process { program_break = c.args.brk; heap_base = c.args.base } in
     let m = c.args.memory.now.map in
-    subst DecisionFits (sym (c.decide.ensures.decides p m (c.facts_for_call.ensures.describes p refl refl)))
-    (decide-fits p m c.facts_for_call.result.free c.requires.heap c.args.call.now.number c.args.call.now.args)
+    subst DecisionFits (sym (c.decide.ensures.decides p m (c.facts_for_call-facts.ensures.describes p refl refl)))
+    (decide-fits p m c.facts_for_call-facts.result.free c.requires.heap c.args.call c.args.args.now)
 
 pub returns-clause-decides : goal.returns-clause-decides
 returns-clause-decides c = λ p b h.
     let m = c.args.memory.now.map in
-    c.decide.ensures.decides p m (c.facts_for_call.ensures.describes p b h) ∙ ap (λ free. decide p m free c.args.call.now.number c.args.call.now.args) c.facts_for_call.ensures.free
+    c.decide.ensures.decides p m (c.facts_for_call-facts.ensures.describes p b h) ∙ ap (λ free. decide p m free c.args.call c.args.args.now) c.facts_for_call-facts.ensures.free

@@ -6,31 +6,33 @@ use Rattle.file_model.specs.Operations.{FileResult}
 use Rattle.file_model.specs.declared.operations.Readiness.TheVariants.{Ready, FileStep}
 use Rattle.hybrid_laws.proofs.maps.Tests.{both, not-true}
 use Rattle.hybrid_model.specs.Globals.{IsUnderWay}
-use Rattle.kernel_model.specs.Plans.{Act, Gather, Phase, Scatter, Stream, act_of, has_vectors, is_read, is_write, vector_count}
+use Rattle.kernel_model.specs.CallPhases.{Act, Gather, Phase, Scatter, Stream, act_of, vector_count}
 use Rattle.kernel_model.specs.Progress.{After, Progress, acted, drop_used_up, file_step_in, has_piece, is_file_step, is_used_up, kind_of_phase, next_kind, ranges_of, settle, stream_end, stream_operation, take_file_step, with_scatter, without_empty}
 use Rattle.kernel_model.specs.declared.ranges.Range.{Range}
 use Rattle.mck_word.specs.Lists.{tail}
 use Rattle.std.proofs.Common.{ap, arith, refl, subst, sym, ◌∙◌}
 use Rattle.std.proofs.lemmas.Bool.Decides.{nat_tests}
 use Rattle.std.specs.Prelude.{Bool, List, Some, [], cond, false, get_or, length, nat_lt, negsuc, not, pos, true, ℕ, ℤ, ◌&&◌, ◌+◌, ◌==◌, ◌||◌, ◌∷◌, ◌≡◌, ◌≤◌}
+use Rattle.system_calls.specs.FileCalls.{has_vectors, is_read, is_write}
+use Rattle.system_calls.specs.declared.file_calls.FileCall.{FileCall}
 use Rattle.work_laws.proofs.calls.Acts.{act-adds, is_refusal, vectors-refuse}
-use Rattle.work_laws.proofs.calls.Plans.{pieces-most}
+use Rattle.work_laws.proofs.calls.Begins.{pieces-most}
 use Rattle.work_laws.proofs.calls.Settling.{after_left, drop-less, ends-less, full-pieces, left-is, settle-dropped, settle-less}
 use Rattle.work_laws.proofs.files.StreamsAdd.{stream-adds}
 use Rattle.work_laws.specs.KernelLeft.{begins_with_act, files_left, is_refused, phase_left, phases_left, progress_left}
 
 -- the bytes that an act built, to be scattered
-scatter-most : (number : ℕ) (out : List ℕ) (phases : List Phase) → length out ≤ 65_536 → phases_left number (with_scatter out phases) ≤ phases_left number phases + 18
-scatter-most number out [] l = omega arith
-scatter-most number out (Gather rs ∷ phases) l = omega arith
-scatter-most number out (Act ∷ phases) l = omega arith
-scatter-most number out (Scatter [] ∷ phases) l = omega arith
-scatter-most number out (Scatter (r ∷ rs) ∷ phases) l =
+scatter-most : (call : FileCall) (out : List ℕ) (phases : List Phase) → length out ≤ 65_536 → phases_left call (with_scatter out phases) ≤ phases_left call phases + 18
+scatter-most call out [] l = omega arith
+scatter-most call out (Gather rs ∷ phases) l = omega arith
+scatter-most call out (Act ∷ phases) l = omega arith
+scatter-most call out (Scatter [] ∷ phases) l = omega arith
+scatter-most call out (Scatter (r ∷ rs) ∷ phases) l =
     let s : Range = record r { len = length out } in
     let a = pieces-most s in
     let b = full-pieces (s ∷ []) in
     omega (arith, a, b, l)
-scatter-most number out (Stream rs ∷ phases) l = omega arith
+scatter-most call out (Stream rs ∷ phases) l = omega arith
 
 module _ (p : Progress) (files : Files) (process : ℕ) where
   abbrev Less : After → Type 0
@@ -39,34 +41,34 @@ module _ (p : Progress) (files : Files) (process : ℕ) where
   -- ---- an act
   module _ (rest : List Phase) (begins : p.phases ≡ Act ∷ rest) where
     abbrev r : FileResult
-    r = file_step files process (act_of p.number p.arguments) p.buffer
+    r = file_step files process (act_of p.call p.arguments) p.buffer
 
     more : files_left r.files ≤ files_left files + 1
-    more = (act-adds files process p.number p.arguments p.buffer).more
+    more = (act-adds files process p.call p.arguments p.buffer).more
 
     built : length r.out ≤ 65_536
-    built = (act-adds files process p.number p.arguments p.buffer).built
+    built = (act-adds files process p.call p.arguments p.buffer).built
 
-    phases-are : phases_left p.number p.phases ≡ 20 + phases_left p.number rest
-    phases-are = ap (phases_left p.number) begins ∙ omega arith
+    phases-are : phases_left p.call p.phases ≡ 20 + phases_left p.call rest
+    phases-are = ap (phases_left p.call) begins ∙ omega arith
 
     rest-is : tail p.phases ≡ rest
     rest-is = ap tail begins
 
     -- what stood before it
-    stood : (b : Bool) → is_refused p ≡ b → progress_left p ≡ 1 + cond b 2 (20 + phases_left p.number rest)
-    stood b e = ap (λ c. 1 + cond c 2 (phases_left p.number p.phases)) e ∙ ap (λ n. 1 + cond b 2 n) phases-are
+    stood : (b : Bool) → is_refused p ≡ b → progress_left p ≡ 1 + cond b 2 (20 + phases_left p.call rest)
+    stood b e = ap (λ c. 1 + cond c 2 (phases_left p.call p.phases)) e ∙ ap (λ n. 1 + cond b 2 n) phases-are
 
     refused-not : is_refused p ≡ true → is_refusal r.answer ≡ true
     refused-not e =
-        let a = both (has_vectors p.number && begins_with_act p.phases) (not (count_is_valid (vector_count p.number p.arguments))) e in
-        let b = both (has_vectors p.number) (begins_with_act p.phases) a.0 in
-        vectors-refuse files process p.number p.arguments p.buffer b.0 (not-true (count_is_valid (vector_count p.number p.arguments)) a.1)
+        let a = both (has_vectors p.call && begins_with_act p.phases) (not (count_is_valid (vector_count p.call p.arguments))) e in
+        let b = both (has_vectors p.call) (begins_with_act p.phases) a.0 in
+        vectors-refuse files process p.call p.arguments p.buffer b.0 (not-true (count_is_valid (vector_count p.call p.arguments)) a.1)
 
     abbrev After_answer : ℤ → Type 0
     After_answer answer = Less (elim answer as (λ _. After) [
       | negsuc n ↦ record { progress = p; ended = Some (negsuc n); files = r.files }
-      | pos n ↦ cond (is_read p.number || is_write p.number)
+      | pos n ↦ cond (is_read p.call || is_write p.call)
           (settle (record p { found = Some n; phases = tail p.phases }) r.files)
           (settle (record p { answer = pos n; buffer = r.out; phases = with_scatter r.out (tail p.phases) }) r.files)
     ])
@@ -74,7 +76,7 @@ module _ (p : Progress) (files : Files) (process : ℕ) where
     act-less : Less (acted p r)
     act-less = go r.answer refl (is_refused p) refl
       where
-        least : (b : Bool) → 3 ≤ 1 + cond b 2 (20 + phases_left p.number rest)
+        least : (b : Bool) → 3 ≤ 1 + cond b 2 (20 + phases_left p.call rest)
         least true = omega arith
         least false = omega arith
 
@@ -83,14 +85,14 @@ module _ (p : Progress) (files : Files) (process : ℕ) where
             (settle (record p { answer = pos n; buffer = r.out; phases = with_scatter r.out (tail p.phases) }) r.files))
         finds n e true =
             let a = settle-less (record p { found = Some n; phases = tail p.phases }) r.files in
-            let b = ap (phases_left p.number) rest-is in
+            let b = ap (phases_left p.call) rest-is in
             let c = more in
             let d = stood false e in
             omega (arith, a, b, c, d)
         finds n e false =
             let a = settle-less (record p { answer = pos n; buffer = r.out; phases = with_scatter r.out (tail p.phases) }) r.files in
-            let s = scatter-most p.number r.out (tail p.phases) built in
-            let b = ap (phases_left p.number) rest-is in
+            let s = scatter-most p.call r.out (tail p.phases) built in
+            let b = ap (phases_left p.call) rest-is in
             let c = more in
             let d = stood false e in
             omega (arith, a, b, c, d, s)
@@ -98,20 +100,20 @@ module _ (p : Progress) (files : Files) (process : ℕ) where
         go : (answer : ℤ) → r.answer ≡ answer → (b : Bool) → is_refused p ≡ b → After_answer answer
         go (negsuc n) f b e = let c = more in let d = stood b e in let l = least b in omega (arith, c, d, l)
         go (pos n) f true e = absurd (let x = refused-not e in let y = ap is_refusal f in grind (arith, x, y))
-        go (pos n) f false e = finds n e (is_read p.number || is_write p.number)
+        go (pos n) f false e = finds n e (is_read p.call || is_write p.call)
 
   -- ---- a phase whose ranges are used up
   none-left : (rs : List Range) → nat_lt 0 (length rs) ≡ false → (length rs == 0) ≡ true
   none-left rs e = grind (arith, nat_tests, e)
 
-  used-up : (phase : Phase) (rest : List Phase) → p.phases ≡ phase ∷ rest → begins_with_act (phase ∷ rest) ≡ false → is_used_up phase ≡ true → 1 ≤ phase_left p.number phase → Less (settle p files)
+  used-up : (phase : Phase) (rest : List Phase) → p.phases ≡ phase ∷ rest → begins_with_act (phase ∷ rest) ≡ false → is_used_up phase ≡ true → 1 ≤ phase_left p.call phase → Less (settle p files)
   used-up phase rest begins no_act used counts =
       let a = settle-dropped p files in
       let b = left-is p (ap begins_with_act begins ∙ no_act) in
-      let c = ap (phases_left p.number) begins in
-      let e = drop-less p.number rest in
-      let f = ap (λ x. phases_left p.number (cond x (drop_used_up rest) (phase ∷ rest))) used in
-      let g = ap (λ ps. phases_left p.number (drop_used_up ps)) begins in
+      let c = ap (phases_left p.call) begins in
+      let e = drop-less p.call rest in
+      let f = ap (λ x. phases_left p.call (cond x (drop_used_up rest) (phase ∷ rest))) used in
+      let g = ap (λ ps. phases_left p.call (drop_used_up ps)) begins in
       omega (arith, a, b, c, e, f, g, counts)
 
   -- ---- a stream that ends
@@ -121,7 +123,7 @@ module _ (p : Progress) (files : Files) (process : ℕ) where
       let a = ends-less (cond (p.moved == 0) r.answer (pos p.moved)) p r.files in
       let b = stream-adds p files process [] in
       let c = left-is p (ap begins_with_act begins) in
-      let d = ap (phases_left p.number) begins in
+      let d = ap (phases_left p.call) begins in
       omega (arith, a, b, c, d)
 
   -- the ranges of the phase under way

@@ -2,7 +2,7 @@
 use Rattle.file_model.specs.FileSteps.{ready}
 use Rattle.file_model.specs.Files.{Files}
 use Rattle.file_model.specs.declared.operations.Readiness.TheVariants.{Ready, FileStep}
-use Rattle.kernel_model.specs.Plans.{Act, Gather, Phase, Scatter, Stream}
+use Rattle.kernel_model.specs.CallPhases.{Act, Gather, Phase, Scatter, Stream}
 use Rattle.kernel_model.specs.Progress.{Progress, has_piece, is_ready, kind_of_phase, move_piece, moved_in_phase, next_kind, stream_operation}
 use Rattle.std.proofs.Common.{ap, arith, inl, refl, subst, sym, ◌∙◌}
 use Rattle.std.specs.Prelude.{Bool, List, [], cond, false, get_or, length, true, ℕ, ◌∷◌, ◌≡◌}

@@ -2,7 +2,7 @@
 use Rattle.file_model.specs.Errno.{EINVAL, ENAMETOOLONG}
 use Rattle.file_model.specs.Files.{Files}
 use Rattle.kernel_model.specs.Pages.{first_piece}
-use Rattle.kernel_model.specs.Plans.{Act, Gather, Phase, Scatter, Stream, has_path, most_moved}
+use Rattle.kernel_model.specs.CallPhases.{Act, Gather, Phase, Scatter, Stream, most_moved}
 use Rattle.kernel_model.specs.Progress.{After, Progress, advanced, cut_ranges, ends, gather_path, gather_vectors, gathered, goes_on, has_piece, next_piece, ranges_left, ranges_of, scattered, settle, vectors, without_empty}
 use Rattle.kernel_model.specs.declared.ranges.Range.{Range}
 use Rattle.mck_word.specs.Lists.{before_zero, tail}
@@ -12,6 +12,7 @@ use Rattle.std.proofs.Common.{ap, arith, refl, sym, ◌∙◌}
 use Rattle.std.proofs.lemmas.Bool.Decides.{nat_tests}
 use Rattle.std.specs.List.{list_any}
 use Rattle.std.specs.Prelude.{zero, suc, Bool, List, [], cond, drop, false, get_or, length, min, nat_le, nat_lt, take, true, ℕ, ◌%◌, ◌*◌, ◌++◌, ◌+◌, ◌-◌, ◌/◌, ◌<◌, ◌==◌, ◌^◌, ◌∷◌, ◌≡◌, ◌≤◌}
+use Rattle.system_calls.specs.FileCalls.{has_path}
 use Rattle.work_laws.proofs.calls.Settling.{after_left, ends-less, full-pieces, left-is, on-less, settle-less}
 use Rattle.work_laws.specs.KernelLeft.{begins_with_act, files_left, phase_left, phases_left, pieces, progress_left}
 
@@ -126,11 +127,11 @@ module _ (p : Progress) (files : Files) where
       let d = full-pieces (ranges_of phase) in
       omega (arith, a, b, c, d)
 
-  tail-is : (phase : Phase) (rest : List Phase) → UnderWay phase rest → phases_left p.number (tail p.phases) ≡ phases_left p.number rest
-  tail-is phase rest u = ap (λ ps. phases_left p.number (tail ps)) u.begins
+  tail-is : (phase : Phase) (rest : List Phase) → UnderWay phase rest → phases_left p.call (tail p.phases) ≡ phases_left p.call rest
+  tail-is phase rest u = ap (λ ps. phases_left p.call (tail ps)) u.begins
 
-  before : (phase : Phase) (rest : List Phase) → begins_with_act (phase ∷ rest) ≡ false → UnderWay phase rest → progress_left p ≡ 1 + (phase_left p.number phase + phases_left p.number rest)
-  before phase rest none u = left-is p (ap begins_with_act u.begins ∙ none) ∙ ap (λ ps. 1 + phases_left p.number ps) u.begins
+  before : (phase : Phase) (rest : List Phase) → begins_with_act (phase ∷ rest) ≡ false → UnderWay phase rest → progress_left p ≡ 1 + (phase_left p.call phase + phases_left p.call rest)
+  before phase rest none u = left-is p (ap begins_with_act u.begins ∙ none) ∙ ap (λ ps. 1 + phases_left p.call ps) u.begins
 
   -- ---- gather
   module _ (rs : List Range) (rest : List Phase) (u : UnderWay (Gather rs) rest) (page : List ℕ) where
@@ -163,11 +164,11 @@ module _ (p : Progress) (files : Files) where
             let e = pieces-after (Gather rs) rest u in
             omega (arith, a, b, d, e)
 
-    vectors-less : has_path p.number ≡ false → Less (gather_vectors q ranges files)
+    vectors-less : has_path p.call ≡ false → Less (gather_vectors q ranges files)
     vectors-less plain = go ranges refl
       where
-        d : progress_left p ≡ 1 + (1 + pieces rs + 96 + phases_left p.number rest)
-        d = before (Gather rs) rest refl u ∙ ap (λ b. 1 + (1 + pieces rs + cond b 0 96 + phases_left p.number rest)) plain
+        d : progress_left p ≡ 1 + (1 + pieces rs + 96 + phases_left p.call rest)
+        d = before (Gather rs) rest refl u ∙ ap (λ b. 1 + (1 + pieces rs + cond b 0 96 + phases_left p.call rest)) plain
 
         whole : (c : Bool) → Less (cond c (ends (refused EINVAL) q files) (settle (record q { buffer = []; phases = Stream (without_empty (cut_ranges most_moved (vectors 16 q.buffer))) ∷ [] }) files))
         whole true = let a = ends-less (refused EINVAL) q files in omega (arith, a)
@@ -190,9 +191,9 @@ module _ (p : Progress) (files : Files) where
         go [] g = whole (list_any (λ (v : Range). nat_le (2 ^ 63) v.len) (vectors 16 q.buffer))
 
     pub gather-less : Less (gathered p (without_empty rs) files page).after
-    gather-less = go (has_path p.number) refl
+    gather-less = go (has_path p.call) refl
       where
-        go : (b : Bool) → has_path p.number ≡ b → Less (cond b (gather_path q ranges files) (gather_vectors q ranges files))
+        go : (b : Bool) → has_path p.call ≡ b → Less (cond b (gather_path q ranges files) (gather_vectors q ranges files))
         go true e = path-less
         go false e = vectors-less e
 

@@ -16,7 +16,7 @@ use Rattle.hybrid_model.specs.Shown.{one}
 use Rattle.hybrid_model.specs.Sides.{Service, service_of}
 use Rattle.hybrid_model.specs.Spaces.{frame_bytes, shown_row}
 use Rattle.hybrid_model.specs.declared.events.Event.{Event}
-use Rattle.ikc_ring.specs.declared.Call.{Call}
+use Rattle.ikc_ring.specs.declared.CallRequest.{CallRequest}
 use Rattle.isa_model.specs.Memory.{Memory, Page, allows_in}
 use Rattle.kernel_model.specs.Nodes.{is_there, thread_of}
 use Rattle.kernel_model.specs.OneKernel.{OneHere, OneKernel, one_here, put_one_here}
@@ -78,7 +78,7 @@ module _ (k : Prices) (pair : Pair) (c : Coherent pair) (full : AllFull (one pai
   abbrev pin_serves : PinServes (at h.side.linux.workers) (at h.side.book.rows) (at h.side.linux.services) w copy_may.pin
   pin_serves = serving p h (ring_number pair) (c.whole p) q w may_happen.1
 
-  abbrev held : (call : Call) × (at h.side.book.rows pin_serves.number ≡ Some (Held, call))
+  abbrev held : (call : CallRequest) × (at h.side.book.rows pin_serves.number ≡ Some (Held, call))
   held = request p h (ring_number pair) (c.whole p) q w may_happen.1
 
   abbrev before : Service

@@ -13,7 +13,7 @@ use Rattle.hybrid_model.specs.Workers.{state_if, stepped_service}
 use Rattle.hybrid_model.specs.Pairs.{Here}
 use Rattle.hybrid_model.specs.Sides.{LinuxSide, Service, Side, looked_up, serves, service_of, state_in, with_state}
 use Rattle.hybrid_model.specs.Spaces.{frame_bytes}
-use Rattle.ikc_ring.specs.declared.Call.{Call}
+use Rattle.ikc_ring.specs.declared.CallRequest.{CallRequest}
 use Rattle.kernel_model.specs.Progress.{After, is_not_ready, is_ready, move_piece, needed_access, next_kind, next_piece}
 use Rattle.mck_word.specs.MapLaws.{at-cut, at-put}
 use Rattle.mck_word.specs.Maps.{Map, at, cut, entries, put, total}
@@ -40,7 +40,7 @@ rank-less true false false false h = omega arith
 
 module _ (files files' : Files) (q : Quieter files files') where
   -- a request that is as it was, and whose pin is
-  request-less : (l l' : LinuxSide) (e : ℕ × (ReqState × Call)) → service_of l'.services e.0 ≡ service_of l.services e.0 → l'.mirror ≡ l.mirror
+  request-less : (l l' : LinuxSide) (e : ℕ × (ReqState × CallRequest)) → service_of l'.services e.0 ≡ service_of l.services e.0 → l'.mirror ≡ l.mirror
       → (e.1.0 ≡ States.Held → is_uncopied (at l'.pins (service_of l.services e.0).worker) ≡ is_uncopied (at l.pins (service_of l.services e.0).worker)) → of_request files' l' e ≤ of_request files l e
   request-less l l' e service mirror pin = go e.1.0 pin
     where
@@ -95,7 +95,7 @@ module _ (p : ℕ) (h : Here) (ring_number : ℕ → ℕ) (k : OfProcess p h.sid
   abbrev pub n : ℕ
   n = serving.number
 
-  abbrev pub request : (call : Call) × (at h.side.book.rows n ≡ Some (States.Held, call))
+  abbrev pub request : (call : CallRequest) × (at h.side.book.rows n ≡ Some (States.Held, call))
   request = held-row (at h.side.book.rows) n (serving.held m.fresh)
 
   serves-is : serves l w ≡ n
@@ -112,13 +112,13 @@ module _ (p : ℕ) (h : Here) (ring_number : ℕ → ℕ) (k : OfProcess p h.sid
     abbrev l' : LinuxSide
     l' = record l { services = put l.services n (stepped_service before a); pins = put l.pins w now }
 
-    abbrev f : ℕ × (ReqState × Call) → ℕ
+    abbrev f : ℕ × (ReqState × CallRequest) → ℕ
     f = of_request h.node.files l
 
-    abbrev g : ℕ × (ReqState × Call) → ℕ
+    abbrev g : ℕ × (ReqState × CallRequest) → ℕ
     g = of_request a.files l'
 
-    pin-same : (j : ℕ) (c : Call) → (j == n) ≡ false → at h.side.book.rows j ≡ Some (States.Held, c) → is_uncopied (at l'.pins (service_of l.services j).worker) ≡ is_uncopied (at l.pins (service_of l.services j).worker)
+    pin-same : (j : ℕ) (c : CallRequest) → (j == n) ≡ false → at h.side.book.rows j ≡ Some (States.Held, c) → is_uncopied (at l'.pins (service_of l.services j).worker) ≡ is_uncopied (at l.pins (service_of l.services j).worker)
     pin-same j c other is = go ((service_of l.services j).worker == w) refl
       where
         held_by : at l.workers (service_of l.services j).worker ≡ Some j
@@ -132,14 +132,14 @@ module _ (p : ℕ) (h : Here) (ring_number : ℕ → ℕ) (k : OfProcess p h.sid
             let y : j ≡ n = ap (λ (o : Option ℕ). unwrap_or o 0) z in
             grind (arith, nat_tests, y, other))
 
-    other-less : (j : ℕ) (u : ReqState × Call) → (j == n) ≡ false → at h.side.book.rows j ≡ Some u → g (j, u) ≤ f (j, u)
+    other-less : (j : ℕ) (u : ReqState × CallRequest) → (j == n) ≡ false → at h.side.book.rows j ≡ Some u → g (j, u) ≤ f (j, u)
     other-less j (s, c) other is = request-less h.node.files a.files quiet.quieter l l' (j, (s, c)) (service-other l.services n (stepped_service before a) j other) refl
         (λ x. pin-same j c other (is ∙ ap (λ (y : ReqState). Some (y, c)) x))
 
     rows-less : sum_by g (entries (cut h.side.book.rows n)) ≤ sum_by f (entries (cut h.side.book.rows n))
     rows-less = rows-le g f (cut h.side.book.rows n) (λ j u is. left j u (j == n) refl (sym (at-cut h.side.book.rows n j) ∙ is))
       where
-        left : (j : ℕ) (u : ReqState × Call) (b : Bool) → (j == n) ≡ b → cond b None (at h.side.book.rows j) ≡ Some u → g (j, u) ≤ f (j, u)
+        left : (j : ℕ) (u : ReqState × CallRequest) (b : Bool) → (j == n) ≡ b → cond b None (at h.side.book.rows j) ≡ Some u → g (j, u) ≤ f (j, u)
         left j u true x is = absurd (grind (arith, is))
         left j u false x is = other-less j u x is
 

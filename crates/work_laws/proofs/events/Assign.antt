@@ -9,7 +9,7 @@ use Rattle.hybrid_model.specs.Copy.{is_uncopied}
 use Rattle.hybrid_model.specs.Pairs.{Here}
 use Rattle.hybrid_model.specs.Sides.{LinuxSide, Service, looked_up, service_of}
 use Rattle.hybrid_model.specs.Spaces.{first_number}
-use Rattle.ikc_ring.specs.declared.Call.{Call}
+use Rattle.ikc_ring.specs.declared.CallRequest.{CallRequest}
 use Rattle.kernel_model.specs.Progress.{is_ready, needed_access, next_kind, next_piece}
 use Rattle.mck_word.specs.Maps.{at, put}
 use Rattle.mck_word.specs.declared.Pid.{Pid}
@@ -25,7 +25,7 @@ module _ (p : ℕ) (h : Here) (ring_number : ℕ → ℕ) (k : OfProcess p h.sid
   abbrev n : ℕ
   n = first_number h.side.book.waiting
 
-  waits : (call : Call) × (at h.side.book.rows n ≡ Some (Waiting, call))
+  waits : (call : CallRequest) × (at h.side.book.rows n ≡ Some (Waiting, call))
   waits =
       let f = not-empty h.side.book.waiting (may-assign h q w e).waits in
       let r = waiting-first (at h.side.book.rows) f.0 f.1 (rw f.2 at k.served.waits) in

@@ -11,7 +11,7 @@ use Rattle.hybrid_model.specs.Pin.{pin, pinned}
 use Rattle.hybrid_model.specs.Workers.{row_for}
 use Rattle.hybrid_model.specs.Pairs.{Here}
 use Rattle.hybrid_model.specs.Sides.{LinuxSide, Row, looked_up, served, service_of, state_in}
-use Rattle.ikc_ring.specs.declared.Call.{Call}
+use Rattle.ikc_ring.specs.declared.CallRequest.{CallRequest}
 use Rattle.kernel_model.specs.Progress.{is_ready, needed_access, next_kind, next_piece}
 use Rattle.mck_word.specs.MapLaws.{at-put}
 use Rattle.mck_word.specs.Maps.{at, put}
@@ -37,7 +37,7 @@ module _ (p : ℕ) (h : Here) (ring_number : ℕ → ℕ) (k : OfProcess p h.sid
     l' = record l { pins = put l.pins w new }
 
     -- a request that another worker holds
-    held-same : (j : ℕ) (c : Call) → (j == n) ≡ false → at h.side.book.rows j ≡ Some (States.Held, c) → rank_of h.node.files (service_of l.services j) (at l'.pins) (at l.mirror) ≡ rank_of h.node.files (service_of l.services j) (at l.pins) (at l.mirror)
+    held-same : (j : ℕ) (c : CallRequest) → (j == n) ≡ false → at h.side.book.rows j ≡ Some (States.Held, c) → rank_of h.node.files (service_of l.services j) (at l'.pins) (at l.mirror) ≡ rank_of h.node.files (service_of l.services j) (at l.pins) (at l.mirror)
     held-same j c other is = go ((service_of l.services j).worker == w) refl
       where
         held_by : at l.workers (service_of l.services j).worker ≡ Some j
@@ -52,7 +52,7 @@ module _ (p : ℕ) (h : Here) (ring_number : ℕ → ℕ) (k : OfProcess p h.sid
             let y : j ≡ n = ap (λ (o : Option ℕ). unwrap_or o 0) z in
             grind (arith, nat_tests, y, other))
 
-    same : (j : ℕ) (u : ReqState × Call) → (j == n) ≡ false → at h.side.book.rows j ≡ Some u → of_request h.node.files l' (j, u) ≡ of_request h.node.files l (j, u)
+    same : (j : ℕ) (u : ReqState × CallRequest) → (j == n) ≡ false → at h.side.book.rows j ≡ Some u → of_request h.node.files l' (j, u) ≡ of_request h.node.files l (j, u)
     same j (States.Held, c) f is = ap (λ n. of_reply + n) (held-same j c f is)
     same j (States.Posted, c) f is = refl
     same j (States.Waiting, c) f is = refl

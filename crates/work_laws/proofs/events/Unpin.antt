@@ -11,7 +11,7 @@ use Rattle.hybrid_model.specs.Unpin.{is_copied, may_unpin, unpin}
 use Rattle.hybrid_model.specs.Workers.{has_pin, holds, is_held, kind_for}
 use Rattle.hybrid_model.specs.Pairs.{Here}
 use Rattle.hybrid_model.specs.Sides.{LinuxSide, Service, looked_up, service_of, state_in}
-use Rattle.ikc_ring.specs.declared.Call.{Call}
+use Rattle.ikc_ring.specs.declared.CallRequest.{CallRequest}
 use Rattle.kernel_model.specs.Progress.{is_ready, needed_access, next_kind, next_piece}
 use Rattle.mck_word.specs.MapLaws.{at-cut}
 use Rattle.mck_word.specs.Maps.{at, cut}
@@ -47,13 +47,13 @@ module _ (p : ℕ) (h : Here) (ring_number : ℕ → ℕ) (k : OfProcess p h.sid
       both (has_pin l w) (is_copied (at l.pins w) || not (holds l h.side.book w && is_ready (kind_for l h.node.files w))) a.1
 
   -- of the request that the worker holds
-  own : (j : ℕ) (c : Call) → at h.side.book.rows j ≡ Some (States.Held, c) → at l.workers w ≡ Some j → (is_copied (at l.pins w) || not (is_ready (next_kind h.node.files (service_of l.services j).progress))) ≡ true
+  own : (j : ℕ) (c : CallRequest) → at h.side.book.rows j ≡ Some (States.Held, c) → at l.workers w ≡ Some j → (is_copied (at l.pins w) || not (is_ready (next_kind h.node.files (service_of l.services j).progress))) ≡ true
   own j c is serving =
       let held = ap (λ o. is_held (state_in o)) is in
       let a = rw serving at allowed.1 in
       rw held at a
 
-  held-same : (j : ℕ) (c : Call) → at h.side.book.rows j ≡ Some (States.Held, c) → rank_of h.node.files (service_of l.services j) (at l'.pins) (at l.mirror) ≡ rank_of h.node.files (service_of l.services j) (at l.pins) (at l.mirror)
+  held-same : (j : ℕ) (c : CallRequest) → at h.side.book.rows j ≡ Some (States.Held, c) → rank_of h.node.files (service_of l.services j) (at l'.pins) (at l.mirror) ≡ rank_of h.node.files (service_of l.services j) (at l.pins) (at l.mirror)
   held-same j c is = go ((service_of l.services j).worker == w) refl
     where
       x : Service
@@ -74,7 +74,7 @@ module _ (p : ℕ) (h : Here) (ring_number : ℕ → ℕ) (k : OfProcess p h.sid
           ∙ pin-counts-not ready without_row (at l.pins w) (own j c is serving)
           ∙ ap (λ (v : ℕ). rank_held ready without_row (is_uncopied (at l.pins v))) (sym g)
 
-  same : (j : ℕ) (u : ReqState × Call) → at h.side.book.rows j ≡ Some u → of_request h.node.files l' (j, u) ≡ of_request h.node.files l (j, u)
+  same : (j : ℕ) (u : ReqState × CallRequest) → at h.side.book.rows j ≡ Some u → of_request h.node.files l' (j, u) ≡ of_request h.node.files l (j, u)
   same j (States.Held, c) is = ap (λ n. of_reply + n) (held-same j c is)
   same j (States.Posted, c) is = refl
   same j (States.Waiting, c) is = refl

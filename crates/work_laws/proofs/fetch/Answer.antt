@@ -11,7 +11,7 @@ use Rattle.hybrid_model.specs.Pairs.{Here}
 use Rattle.hybrid_model.specs.Rings.{ring, with_ring}
 use Rattle.hybrid_model.specs.Sides.{LinuxSide, Row, Service, looked_up, serves, service_of, with_state}
 use Rattle.hybrid_model.specs.Tallies.{Reads}
-use Rattle.ikc_ring.specs.declared.Call.{Call}
+use Rattle.ikc_ring.specs.declared.CallRequest.{CallRequest}
 use Rattle.ikc_ring.specs.declared.Msg.TheVariants.{Answer}
 use Rattle.ikc_ring.specs.declared.Msg.{Msg}
 use Rattle.isa_model.specs.Memory.{allows}
@@ -66,7 +66,7 @@ module _ (p : ℕ) (h : Here) (ring_number : ℕ → ℕ) (k : OfProcess p h.sid
   weight o = of_message h.workers l.cleared (at h.side.lwk.table) (Answer w page number o)
 
   -- the request that the worker serves
-  module _ (q : ℕ) (call : Call) (serving : at l.workers w ≡ Some q) (is : at h.side.book.rows q ≡ Some (States.Faulted, call)) where
+  module _ (q : ℕ) (call : CallRequest) (serving : at l.workers w ≡ Some q) (is : at h.side.book.rows q ≡ Some (States.Faulted, call)) where
     abbrev x : Service
     x = service_of l.services q
 
@@ -115,7 +115,7 @@ module _ (p : ℕ) (h : Here) (ring_number : ℕ → ℕ) (k : OfProcess p h.sid
                 let g : j ≡ page = grind (arith, nat_tests, f) in
                 keeps-right (at h.side.lwk.table) (at l.mirror) k.covered.mirror_rows page row now there same a (ap (λ (i : ℕ). is_none (looked_up (at l.mirror i) a)) (sym g) ∙ e)
 
-        less : (j : ℕ) (u : ReqState × Call) → at h.side.book.rows j ≡ Some u → of_request h.node.files l' (j, u) ≤ of_request h.node.files l (j, u)
+        less : (j : ℕ) (u : ReqState × CallRequest) → at h.side.book.rows j ≡ Some u → of_request h.node.files l' (j, u) ≤ of_request h.node.files l (j, u)
         less j (States.Held, c) e =
             let y = service_of l.services j in
             let a = rank-less (is_ready (next_kind h.node.files y.progress)) (is_none (looked_up (at l.mirror (next_piece y.progress).page) (needed_access y.progress))) (is_none (looked_up (at l'.mirror (next_piece y.progress).page) (needed_access y.progress))) (is_uncopied (at l.pins y.worker))

@@ -7,7 +7,7 @@ use Rattle.hybrid_model.specs.Workers.{is_ended_or_replied}
 use Rattle.hybrid_model.specs.Pairs.{Here}
 use Rattle.hybrid_model.specs.Rings.{ring, with_ring}
 use Rattle.hybrid_model.specs.Sides.{LinuxSide, Service, service_of, state_of}
-use Rattle.ikc_ring.specs.declared.Call.{Call}
+use Rattle.ikc_ring.specs.declared.CallRequest.{CallRequest}
 use Rattle.ikc_ring.specs.declared.Msg.TheVariants.{Interrupt}
 use Rattle.ikc_ring.specs.declared.Msg.{Msg}
 use Rattle.mck_word.specs.Maps.{at, entries, put}
@@ -30,16 +30,16 @@ module _ (h : Here) (r : ℕ) (n : Req) (place : ℕ) (ms : List Msg) (first : r
   abbrev l' : LinuxSide
   l' = record l { services = put l.services n.0 told }
 
-  others : (j : ℕ) (u : ReqState × Call) → (j == n.0) ≡ false → at h.side.book.rows j ≡ Some u → of_request h.node.files l' (j, u) ≡ of_request h.node.files l (j, u)
+  others : (j : ℕ) (u : ReqState × CallRequest) → (j == n.0) ≡ false → at h.side.book.rows j ≡ Some u → of_request h.node.files l' (j, u) ≡ of_request h.node.files l (j, u)
   others j u f g = ap (λ (s : Service). of_state h.node.files s (at l.pins) (at l.mirror) u.0) (service-other l.services n.0 told j f)
 
   -- the request that is told of it, where the book has it
-  told-row : (o : Option (ReqState × Call)) → at h.side.book.rows n.0 ≡ o → sum_by (of_request h.node.files l') (entries h.side.book.rows) ≤ of_requests h.node.files h.side + 14
+  told-row : (o : Option (ReqState × CallRequest)) → at h.side.book.rows n.0 ≡ o → sum_by (of_request h.node.files l') (entries h.side.book.rows) ≤ of_requests h.node.files h.side + 14
   told-row None is =
       let a = entries-same (of_request h.node.files l') (of_request h.node.files l) h.side.book.rows (λ j u g. others j u (absent j u g) g) in
       omega (arith, a)
     where
-      absent : (j : ℕ) (u : ReqState × Call) → at h.side.book.rows j ≡ Some u → (j == n.0) ≡ false
+      absent : (j : ℕ) (u : ReqState × CallRequest) → at h.side.book.rows j ≡ Some u → (j == n.0) ≡ false
       absent j u g = go (j == n.0) refl
         where
           go : (b : Bool) → (j == n.0) ≡ b → b ≡ false

@@ -6,7 +6,7 @@ use Rattle.hybrid_model.specs.Fetch.{fetch_request, new_service}
 use Rattle.hybrid_model.specs.Pairs.{Here}
 use Rattle.hybrid_model.specs.Rings.{ring}
 use Rattle.hybrid_model.specs.Sides.{LinuxSide, Service}
-use Rattle.ikc_ring.specs.declared.Call.{Call}
+use Rattle.ikc_ring.specs.declared.CallRequest.{CallRequest}
 use Rattle.ikc_ring.specs.declared.Msg.TheVariants.{Request}
 use Rattle.ikc_ring.specs.declared.Msg.{Msg}
 use Rattle.mck_word.specs.Maps.{at, put}
@@ -16,7 +16,7 @@ use Rattle.std.specs.Prelude.{List, ℕ, ◌+◌, ◌∷◌, ◌≡◌, ◌≤�
 use Rattle.work_laws.proofs.sides.Services.{service-other, stated-row}
 use Rattle.work_laws.specs.Weights.{of_message, of_request, of_side, of_state}
 
-module _ (p : ℕ) (h : Here) (ring_number : ℕ → ℕ) (k : OfProcess p h.side h.node h.workers ring_number) (r : ℕ) (c : Call) (ms : List Msg) (first : ring r h.side.to_linux ≡ Request c ∷ ms) where
+module _ (p : ℕ) (h : Here) (ring_number : ℕ → ℕ) (k : OfProcess p h.side h.node h.workers ring_number) (r : ℕ) (c : CallRequest) (ms : List Msg) (first : ring r h.side.to_linux ≡ Request c ∷ ms) where
   abbrev l : LinuxSide
   l = h.side.linux
 

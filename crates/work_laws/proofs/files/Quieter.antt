@@ -9,7 +9,7 @@ use Rattle.file_model.specs.declared.operations.FileOp.TheVariants.{Openat, Mkdi
 use Rattle.file_model.specs.declared.operations.FileOp.{FileOp}
 use Rattle.file_model.specs.declared.operations.Readiness.TheVariants.{Ready, NotReady, FileStep}
 use Rattle.hybrid_laws.proofs.maps.Tests.{both}
-use Rattle.kernel_model.specs.Plans.{Act, Gather, Phase, Scatter, Stream}
+use Rattle.kernel_model.specs.CallPhases.{Act, Gather, Phase, Scatter, Stream}
 use Rattle.kernel_model.specs.Progress.{Progress, has_piece, is_not_ready, is_ready, kind_of_phase, next_kind, stream_operation}
 use Rattle.mck_word.specs.Maps.{at}
 use Rattle.std.proofs.Common.{ap, arith, refl, sym, ◌∙◌}

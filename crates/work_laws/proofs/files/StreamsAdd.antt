@@ -11,7 +11,6 @@ use Rattle.file_model.specs.declared.operations.Readiness.{Readiness}
 use Rattle.hybrid_laws.proofs.maps.Sums.{counted_at}
 use Rattle.hybrid_laws.proofs.node.Primitives.{at-change}
 use Rattle.hybrid_model.specs.Tallies.{as_number}
-use Rattle.kernel_model.specs.Plans.{is_read}
 use Rattle.kernel_model.specs.Progress.{Progress, description_found, next_piece, offset_argument, stream_operation}
 use Rattle.mck_word.specs.Lists.{spliced}
 use Rattle.mck_word.specs.Maps.{at}
@@ -19,6 +18,7 @@ use Rattle.std.proofs.Common.{ap, arith, length-append, length-drop, length-take
 use Rattle.std.proofs.lemmas.Bool.Decides.{nat_tests}
 use Rattle.std.proofs.lemmas.List.{length-replicate}
 use Rattle.std.specs.Prelude.{Bool, List, None, Option, Some, cond, drop, false, length, min, nat_lt, option_map, pos, replicate, take, true, ℕ, ◌&&◌, ◌++◌, ◌+◌, ◌-◌, ◌==◌, ◌≡◌, ◌≤◌}
+use Rattle.system_calls.specs.FileCalls.{is_read}
 use Rattle.work_laws.proofs.files.Adding.{offset-less}
 use Rattle.work_laws.proofs.node.Left.{total-change}
 use Rattle.work_laws.proofs.sides.Rows.{entries-le}
@@ -165,7 +165,7 @@ put-adds files d own moved n bytes = go (write_ready files d own moved n)
     go FileStep = omega arith
 
 pub stream-adds : (p : Progress) (files : Files) (process : ℕ) (given : List ℕ) → files_left (file_step files process (stream_operation p) given).files ≤ files_left files + 1
-stream-adds p files process given = go (is_read p.number)
+stream-adds p files process given = go (is_read p.call)
   where
     go : (b : Bool) → files_left (file_step files process (cond b (Get (description_found p) (offset_argument p) p.moved (next_piece p).len) (Put (description_found p) (offset_argument p) p.moved (next_piece p).len)) given).files ≤ files_left files + 1
     go true = get-adds files (description_found p) (offset_argument p) p.moved (next_piece p).len

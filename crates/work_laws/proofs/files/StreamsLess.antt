@@ -9,13 +9,14 @@ use Rattle.file_model.specs.declared.operations.FileOp.TheVariants.{Get, Put}
 use Rattle.file_model.specs.declared.operations.FileOp.{FileOp}
 use Rattle.file_model.specs.declared.operations.Readiness.TheVariants.{Ready, NotReady, FileStep}
 use Rattle.file_model.specs.declared.operations.Readiness.{Readiness}
-use Rattle.kernel_model.specs.Plans.{Act, Phase, Stream, is_read}
+use Rattle.kernel_model.specs.CallPhases.{Act, Phase, Stream}
 use Rattle.kernel_model.specs.Progress.{After, Moved, Progress, advanced, answer_of, description_found, drop_used_up, ends, goes_on, has_piece, is_ready, is_used_up, kind_of_phase, nat_of, next_kind, next_piece, offset_argument, passed_on, ranges_left, settle, streamed, streamed_in, streamed_on, streamed_out, without_empty}
 use Rattle.kernel_model.specs.declared.ranges.Range.{Range}
 use Rattle.mck_word.specs.Lists.{tail}
 use Rattle.std.proofs.Common.{ap, arith, inl, inr, length-drop, length-take, refl, subst, sym, ◌∙◌}
 use Rattle.std.proofs.lemmas.Bool.Decides.{nat_tests}
 use Rattle.std.specs.Prelude.{Bool, List, None, Option, [], cond, drop, false, get_or, length, min, nat_lt, pos, take, true, ℕ, ◌%◌, ◌*◌, ◌+◌, ◌-◌, ◌<◌, ◌==◌, ◌∷◌, ◌≡◌, ◌≤◌, ◌⊎◌}
+use Rattle.system_calls.specs.FileCalls.{is_read}
 use Rattle.work_laws.proofs.calls.Pieces.{UnderWay, part-piece, whole-piece}
 use Rattle.work_laws.proofs.calls.Settling.{after_left, full-pieces, left-is, on-less, settle-less}
 use Rattle.work_laws.proofs.files.CutGets.{get-cut}
@@ -44,11 +45,11 @@ module _ (p : Progress) (files : Files) (process : ℕ) (rs : List Range) (rest 
   abbrev on : ℕ → Progress
   on n = streamed_on p ranges n
 
-  before : progress_left p ≡ 1 + (1 + 2 * pieces rs + phases_left p.number rest)
-  before = left-is p (ap begins_with_act u.begins) ∙ ap (λ ps. 1 + phases_left p.number ps) u.begins
+  before : progress_left p ≡ 1 + (1 + 2 * pieces rs + phases_left p.call rest)
+  before = left-is p (ap begins_with_act u.begins) ∙ ap (λ ps. 1 + phases_left p.call ps) u.begins
 
-  tail-is : phases_left p.number (tail p.phases) ≡ phases_left p.number rest
-  tail-is = ap (λ ps. phases_left p.number (tail ps)) u.begins
+  tail-is : phases_left p.call (tail p.phases) ≡ phases_left p.call rest
+  tail-is = ap (λ ps. phases_left p.call (tail ps)) u.begins
 
   pieces-are : pieces rs ≡ pieces (u.first ∷ u.others)
   pieces-are = let a = full-pieces rs in let b = ap pieces u.ranges in omega (arith, a, b)
@@ -129,7 +130,7 @@ module _ (p : Progress) (files : Files) (process : ℕ) (rs : List Range) (rest 
   writes after n k = is_ready (write_ready after d own (p.moved + n) k)
 
   -- the operation of the next piece, after n bytes
-  next-idle : (b : Bool) → is_read p.number ≡ b → (after : Files) (n : ℕ) → (b ≡ true → reads after n ≡ false) → (b ≡ false → (k : ℕ) → writes after n k ≡ false) → is_ready (kind_of_phase after (on n) (Stream (advanced n ranges))) ≡ false
+  next-idle : (b : Bool) → is_read p.call ≡ b → (after : Files) (n : ℕ) → (b ≡ true → reads after n ≡ false) → (b ≡ false → (k : ℕ) → writes after n k ≡ false) → is_ready (kind_of_phase after (on n) (Stream (advanced n ranges))) ≡ false
   next-idle b e after n r w =
       ap (λ c. is_ready (cond (has_piece (on n)) (ready after (cond c (Get d own (p.moved + n) (next_piece (on n)).len) (Put d own (p.moved + n) (next_piece (on n)).len))) FileStep)) e
       ∙ go b r w (has_piece (on n))
@@ -143,7 +144,7 @@ module _ (p : Progress) (files : Files) (process : ℕ) (rs : List Range) (rest 
   abbrev got : FileResult
   got = get_piece files d own p.moved piece
 
-  read-less : is_read p.number ≡ true → is_ready (read_ready files d own p.moved) ≡ true → PieceLess p files (settle (on (length got.out)) got.files)
+  read-less : is_read p.call ≡ true → is_ready (read_ready files d own p.moved) ≡ true → PieceLess p files (settle (on (length got.out)) got.files)
   read-less e r = go (nat_lt n piece) refl
     where
       n : ℕ
@@ -180,7 +181,7 @@ module _ (p : Progress) (files : Files) (process : ℕ) (rs : List Range) (rest 
         omega (arith, a, b, o, full)
 
     -- the piece is put
-    put-less : is_read p.number ≡ false → is_ready (write_ready files d own p.moved piece) ≡ true → PieceLess p files (settle (on (nat_of (put_bytes files d own p.moved given (description_of files d).target).answer)) (put_bytes files d own p.moved given (description_of files d).target).files)
+    put-less : is_read p.call ≡ false → is_ready (write_ready files d own p.moved piece) ≡ true → PieceLess p files (settle (on (nat_of (put_bytes files d own p.moved given (description_of files d).target).answer)) (put_bytes files d own p.moved given (description_of files d).target).files)
     put-less e r = go (nat_lt n (length given)) refl
       where
         t : Target
@@ -223,10 +224,10 @@ module _ (p : Progress) (files : Files) (process : ℕ) (rs : List Range) (rest 
     abbrev operation : Bool → FileOp
     operation b = cond b (Get d own p.moved piece) (Put d own p.moved piece)
 
-    op-ready : is_ready (next_kind files p) ≡ true → is_ready (ready files (operation (is_read p.number))) ≡ true
+    op-ready : is_ready (next_kind files p) ≡ true → is_ready (ready files (operation (is_read p.call))) ≡ true
     op-ready r = go (has_piece p) (sym (ap (λ ps. is_ready (kind_of_phase files p (get_or ps 0 Act))) u.begins) ∙ r)
       where
-        go : (b : Bool) → is_ready (cond b (ready files (operation (is_read p.number))) FileStep) ≡ true → is_ready (ready files (operation (is_read p.number))) ≡ true
+        go : (b : Bool) → is_ready (cond b (ready files (operation (is_read p.call))) FileStep) ≡ true → is_ready (ready files (operation (is_read p.call))) ≡ true
         go true e = e
         go false e = absurd (grind (arith, e))
 
@@ -238,7 +239,7 @@ module _ (p : Progress) (files : Files) (process : ℕ) (rs : List Range) (rest 
     abbrev streamed_as : Bool → Moved
     streamed_as b = cond b (streamed_in p ranges files process page (file_step files process (operation b) [])) (streamed_out p ranges page (file_step files process (operation b) given))
 
-    by-kind : (b : Bool) → is_read p.number ≡ b → is_ready (ready files (operation b)) ≡ true → PieceLess p files (streamed_as b).after
+    by-kind : (b : Bool) → is_read p.call ≡ b → is_ready (ready files (operation b)) ≡ true → PieceLess p files (streamed_as b).after
     by-kind true e r = read-less e r
     by-kind false e r =
         let k = ready-is (write_ready files d own p.moved piece) r in
@@ -253,4 +254,4 @@ module _ (p : Progress) (files : Files) (process : ℕ) (rs : List Range) (rest 
         ]
 
     pub stream-less : is_ready (next_kind files p) ≡ true → PieceLess p files (streamed p ranges files process page).after
-    stream-less r = by-kind (is_read p.number) refl (op-ready r)
+    stream-less r = by-kind (is_read p.call) refl (op-ready r)

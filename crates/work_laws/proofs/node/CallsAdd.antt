@@ -16,6 +16,8 @@ use Rattle.mck_word.specs.declared.Access.TheVariants.{Write}
 use Rattle.mck_word.specs.declared.End.TheVariants.{Exit}
 use Rattle.std.proofs.Common.{arith, refl, ◌∙◌}
 use Rattle.std.specs.Prelude.{Bool, None, Option, Some, cond, false, length, min, pos, slice_set, true, ℕ, ℤ, ◌%◌, ◌-◌, ◌==◌, ◌^◌, ◌≡◌}
+use Rattle.system_calls.specs.declared.LocalCall.TheVariants as Calls
+use Rattle.system_calls.specs.declared.LocalCall.{LocalCall}
 use Rattle.work_laws.proofs.node.Left.{Adds, adds-more, adds-none, adds-then, answered-adds, dies-adds, does-adds, falls-adds, for_process-adds, for_thread-adds, gone-adds, ignored-adds, process-adds, raised-adds, thread-adds, wake-adds}
 use Rattle.work_laws.proofs.node.Signals.{no-signals}
 use Rattle.work_laws.specs.KernelLeft.{Prices, of_thread}
@@ -224,27 +226,23 @@ module _ (k : Prices) (t : ℕ) where
       (either v.node _ _ _ (answers-adds (pos 0) v) (does-adds k v.node t (InWait pid status)))))
 
   -- ---- all of them but clone
-  pub calls-add : (number : ℕ) (a : ℕ → ℕ) (v : View) → One v.node (one_of_calls t number a v).node
-  calls-add number a v =
-      go _ _ _ (exits-adds (exit_code (a 0)) v)
-      (go _ _ _ (exits_group-adds (exit_code (a 0)) v)
-      (go _ _ _ (sets_clear_address-adds (a 0) v)
-      (go _ _ _ (futex-adds (a 0) (a 1) (a 2) (a 3) v)
-      (go _ _ _ (sets_robust_list-adds (a 1) v)
-      (go _ _ _ (answers-adds (pos 0) v)
-      (go _ _ _ (kill-adds (int_argument (a 0)) (int_argument (a 1)) v)
-      (go _ _ _ (tgkill-adds (int_argument (a 0)) (int_argument (a 1)) (int_argument (a 2)) v)
-      (go _ _ _ (sigaction-adds (int_argument (a 0)) (a 1) (a 2) (a 3) v)
-      (go _ _ _ (sigprocmask-adds (int_argument (a 0)) (a 1) (a 2) (a 3) v)
-      (go _ _ _ (sigpending-adds (a 0) (a 1) v)
-      (go _ _ _ (return-adds v)
-      (go _ _ _ (answers-adds (pos (thread_of v.node t).process) v)
-      (go _ _ _ (answers-adds (pos (parent_number v.node (thread_of v.node t).process)) v)
-      (go _ _ _ (answers-adds (pos t) v)
-      (wait4-adds (int_argument (a 0)) (a 1) (a 2 % 2 ^ 32) (a 3) v)))))))))))))))
-    where
-      go : (b : Bool) (x y : View) → One v.node x.node → One v.node y.node → One v.node (cond b x y).node
-      go b x y f g = either v.node b x y f g
+  pub calls-add : (call : LocalCall) (a : ℕ → ℕ) (v : View) → One v.node (one_of_calls t call a v).node
+  calls-add Calls.Exit a v = exits-adds (exit_code (a 0)) v
+  calls-add Calls.ExitGroup a v = exits_group-adds (exit_code (a 0)) v
+  calls-add Calls.SetTidAddress a v = sets_clear_address-adds (a 0) v
+  calls-add Calls.Futex a v = futex-adds (a 0) (a 1) (a 2) (a 3) v
+  calls-add Calls.SetRobustList a v = sets_robust_list-adds (a 1) v
+  calls-add Calls.SchedYield a v = answers-adds (pos 0) v
+  calls-add Calls.Kill a v = kill-adds (int_argument (a 0)) (int_argument (a 1)) v
+  calls-add Calls.Tgkill a v = tgkill-adds (int_argument (a 0)) (int_argument (a 1)) (int_argument (a 2)) v
+  calls-add Calls.RtSigaction a v = sigaction-adds (int_argument (a 0)) (a 1) (a 2) (a 3) v
+  calls-add Calls.RtSigprocmask a v = sigprocmask-adds (int_argument (a 0)) (a 1) (a 2) (a 3) v
+  calls-add Calls.RtSigpending a v = sigpending-adds (a 0) (a 1) v
+  calls-add Calls.RtSigreturn a v = return-adds v
+  calls-add Calls.Getpid a v = answers-adds (pos (thread_of v.node t).process) v
+  calls-add Calls.Getppid a v = answers-adds (pos (parent_number v.node (thread_of v.node t).process)) v
+  calls-add Calls.Gettid a v = answers-adds (pos t) v
+  calls-add Calls.Wait4 a v = wait4-adds (int_argument (a 0)) (a 1) (a 2 % 2 ^ 32) (a 3) v
 
   -- ---- a thread more
   stored : (b c : Bool) (address : ℕ) (bytes : _) (w : View) → (cond b (cond c (store address bytes w) w) w).node ≡ w.node

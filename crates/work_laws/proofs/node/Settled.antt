@@ -24,6 +24,8 @@ use Rattle.mck_word.specs.declared.End.TheVariants.{Exit, Killed}
 use Rattle.std.proofs.Common.{ap, arith, refl, ◌∙◌}
 use Rattle.std.proofs.lemmas.Bool.Decides.{nat_tests}
 use Rattle.std.specs.Prelude.{Bool, None, Option, Some, cond, false, length, min, option_map, pos, true, ℕ, ℤ, ◌%◌, ◌==◌, ◌^◌, ◌||◌, ◌≡◌}
+use Rattle.system_calls.specs.declared.LocalCall.TheVariants as Calls
+use Rattle.system_calls.specs.declared.LocalCall.{LocalCall}
 
 module _ (t : ℕ) where
   -- the thread isn't Stopped, or isn't there
@@ -194,24 +196,20 @@ module _ (t : ℕ) where
   sets_clear_address-settled address v = answered-settled (change_thread t (λ (x : Thread). record x { clear_address = address }) v.node) (pos t)
 
   -- ---- all of them
-  pub calls-settled : (number : ℕ) (a : ℕ → ℕ) (v : View) → Settled (one_of_calls t number a v).node
-  calls-settled number a v =
-      go _ _ _ (exits-settled (exit_code (a 0)) v)
-      (go _ _ _ (exits_group-settled (exit_code (a 0)) v)
-      (go _ _ _ (sets_clear_address-settled (a 0) v)
-      (go _ _ _ (futex-settled (a 0) (a 1) (a 2) (a 3) v)
-      (go _ _ _ (sets_robust_list-settled (a 1) v)
-      (go _ _ _ (answers-settled (pos 0) v)
-      (go _ _ _ (kill-settled (int_argument (a 0)) (int_argument (a 1)) v)
-      (go _ _ _ (tgkill-settled (int_argument (a 0)) (int_argument (a 1)) (int_argument (a 2)) v)
-      (go _ _ _ (sigaction-settled (int_argument (a 0)) (a 1) (a 2) (a 3) v)
-      (go _ _ _ (sigprocmask-settled (int_argument (a 0)) (a 1) (a 2) (a 3) v)
-      (go _ _ _ (sigpending-settled (a 0) (a 1) v)
-      (go _ _ _ (return-settled v)
-      (go _ _ _ (answers-settled (pos (thread_of v.node t).process) v)
-      (go _ _ _ (answers-settled (pos (parent_number v.node (thread_of v.node t).process)) v)
-      (go _ _ _ (answers-settled (pos t) v)
-      (wait4-settled (int_argument (a 0)) (a 1) (a 2 % 2 ^ 32) (a 3) v)))))))))))))))
-    where
-      go : (b : Bool) (x y : View) → Settled x.node → Settled y.node → Settled (cond b x y).node
-      go b x y f g = either b x y f g
+  pub calls-settled : (call : LocalCall) (a : ℕ → ℕ) (v : View) → Settled (one_of_calls t call a v).node
+  calls-settled Calls.Exit a v = exits-settled (exit_code (a 0)) v
+  calls-settled Calls.ExitGroup a v = exits_group-settled (exit_code (a 0)) v
+  calls-settled Calls.SetTidAddress a v = sets_clear_address-settled (a 0) v
+  calls-settled Calls.Futex a v = futex-settled (a 0) (a 1) (a 2) (a 3) v
+  calls-settled Calls.SetRobustList a v = sets_robust_list-settled (a 1) v
+  calls-settled Calls.SchedYield a v = answers-settled (pos 0) v
+  calls-settled Calls.Kill a v = kill-settled (int_argument (a 0)) (int_argument (a 1)) v
+  calls-settled Calls.Tgkill a v = tgkill-settled (int_argument (a 0)) (int_argument (a 1)) (int_argument (a 2)) v
+  calls-settled Calls.RtSigaction a v = sigaction-settled (int_argument (a 0)) (a 1) (a 2) (a 3) v
+  calls-settled Calls.RtSigprocmask a v = sigprocmask-settled (int_argument (a 0)) (a 1) (a 2) (a 3) v
+  calls-settled Calls.RtSigpending a v = sigpending-settled (a 0) (a 1) v
+  calls-settled Calls.RtSigreturn a v = return-settled v
+  calls-settled Calls.Getpid a v = answers-settled (pos (thread_of v.node t).process) v
+  calls-settled Calls.Getppid a v = answers-settled (pos (parent_number v.node (thread_of v.node t).process)) v
+  calls-settled Calls.Gettid a v = answers-settled (pos t) v
+  calls-settled Calls.Wait4 a v = wait4-settled (int_argument (a 0)) (a 1) (a 2 % 2 ^ 32) (a 3) v

@@ -7,7 +7,7 @@ use Rattle.isa_model.specs.Memory.{Memory, Page}
 use Rattle.kernel_model.specs.MemoryCalls.{effect_of, refusal_at_end}
 use Rattle.kernel_model.specs.Nodes.{change_in, process_of, thread_of}
 use Rattle.kernel_model.specs.OneKernel.{OneHere, OneKernel, Own, no_own, one_here, put_one_here, with_born}
-use Rattle.kernel_model.specs.Plans.{Act, Gather, Phase, Scatter, Stream, is_read}
+use Rattle.kernel_model.specs.CallPhases.{Act, Gather, Phase, Scatter, Stream}
 use Rattle.kernel_model.specs.Progress.{Progress, description_found, move_piece, moved_in_phase, next_piece, offset_argument, ranges_left, streamed_in, streamed_out, without_empty}
 use Rattle.kernel_model.specs.Signals.{deliver, stored_all}
 use Rattle.kernel_model.specs.Steps.{after, after_all, after_here, answer_in, bytes_at, call_at, has_call, interrupted_as, one_changed, one_piece, one_space, one_trap, one_trapped, one_view, process_of_step, progress_at, return_of, vm_finish, vm_finish_of, call_ended, with_page}
@@ -21,6 +21,7 @@ use Rattle.mck_word.specs.MapLaws.{at-none, at-put}
 use Rattle.mck_word.specs.Maps.{Map, at, change_row, no_rows, put}
 use Rattle.std.proofs.Common.{ap, arith, length-take, refl, subst, sym, ◌∙◌}
 use Rattle.std.specs.Prelude.{Bool, List, None, Option, Some, [], cond, drop, false, get_or, length, min, take, true, unwrap_or, ℕ, ℤ, ◌%◌, ◌+◌, ◌-◌, ◌==◌, ◌∷◌, ◌≡◌, ◌≤◌}
+use Rattle.system_calls.specs.FileCalls.{is_read}
 use Rattle.work_laws.proofs.files.StreamsAdd.{spliced-length}
 use Rattle.work_laws.proofs.pages.Memory.{effect-full, full-change, instr-full, stored_all-full}
 use Rattle.work_laws.specs.WholePages.{AllFull, Full, IsFull}
@@ -53,7 +54,7 @@ module _ (p : Progress) (files : Files) (process : ℕ) (page : List ℕ) (full 
   phase-full (Gather rs) = full
   phase-full Act = full
   phase-full (Scatter rs) = let a = length-take len p.buffer in spliced-full (take len p.buffer) (omega (arith, a))
-  phase-full (Stream rs) = streamed-full (without_empty rs) (is_read p.number)
+  phase-full (Stream rs) = streamed-full (without_empty rs) (is_read p.call)
 
   pub moved-full : length (move_piece p files process page).page ≡ 4096
   moved-full = phase-full (get_or p.phases 0 Act)

@@ -4,7 +4,7 @@ use Rattle.file_model.specs.Files.{Files}
 use Rattle.hybrid_model.specs.Copy.{is_uncopied}
 use Rattle.hybrid_model.specs.Sides.{LinuxSide, Row, Service, looked_up, service_of}
 use Rattle.hybrid_model.specs.Tallies.{Reads}
-use Rattle.ikc_ring.specs.declared.Call.{Call}
+use Rattle.ikc_ring.specs.declared.CallRequest.{CallRequest}
 use Rattle.kernel_model.specs.Progress.{is_ready, needed_access, next_kind, next_piece}
 use Rattle.mck_word.specs.Maps.{Map, at, count, entries}
 use Rattle.page_pins.specs.declared.Pin.{Pin}
@@ -59,7 +59,7 @@ module _ (files : Files) (k : Service) (pins : Reads Pin) (mirror : Reads Row) w
   state-most States.Replied = omega arith
 
 -- any change of the files, the mirror, the pins, the services and the states
-pub requests-any : (files files' : Files) (l l' : LinuxSide) (rows rows' : Map (ReqState × Call)) → count rows' ≤ count rows → count rows ≤ 16 → sum_by (of_request files' l') (entries rows') ≤ sum_by (of_request files l) (entries rows) + any_change
+pub requests-any : (files files' : Files) (l l' : LinuxSide) (rows rows' : Map (ReqState × CallRequest)) → count rows' ≤ count rows → count rows ≤ 16 → sum_by (of_request files' l') (entries rows') ≤ sum_by (of_request files l) (entries rows) + any_change
 requests-any files files' l l' rows rows' fewer few =
     let a = entries-most (of_request files l) of_reply 34 rows (λ e. state-least files (service_of l.services e.0) (at l.pins) (at l.mirror) e.1.0) (λ e. state-most files (service_of l.services e.0) (at l.pins) (at l.mirror) e.1.0) in
     let b = entries-most (of_request files' l') of_reply 34 rows' (λ e. state-least files' (service_of l'.services e.0) (at l'.pins) (at l'.mirror) e.1.0) (λ e. state-most files' (service_of l'.services e.0) (at l'.pins) (at l'.mirror) e.1.0) in

@@ -11,7 +11,7 @@ use Rattle.hybrid_model.specs.Globals.{Coherent, Places, ring_number}
 use Rattle.hybrid_model.specs.Pairs.{Pair, side_of}
 use Rattle.hybrid_model.specs.Sides.{Caller, Side, new_side}
 use Rattle.hybrid_model.specs.Tallies.{Each, EachRing, if_same, sum_rings, tally}
-use Rattle.ikc_ring.specs.declared.Call.{Call}
+use Rattle.ikc_ring.specs.declared.CallRequest.{CallRequest}
 use Rattle.ikc_ring.specs.declared.Msg.TheVariants.{Request, Clear, Answer, Interrupt, Reply, Ack, Fault}
 use Rattle.ikc_ring.specs.declared.Msg.{Msg}
 use Rattle.kernel_model.specs.Nodes.{Node, Thread, no_thread}
@@ -56,11 +56,11 @@ each-map f P (x ∷ xs) h = (h.0, each-map f P xs h.1)
 
 -- ---- one process
 module _ (p : ℕ) (side : Side) (node : Node) (worker_count : ℕ) (ring_of : ℕ → ℕ) (k : OfProcess p side node worker_count ring_of) (places : Places node) where
-  abbrev rows : Map (ReqState × Call)
+  abbrev rows : Map (ReqState × CallRequest)
   rows = side.book.rows
 
   -- the thread that calls with a request
-  record CallerAt (q : ℕ) (r : ReqState × Call) : Type 0 where
+  record CallerAt (q : ℕ) (r : ReqState × CallRequest) : Type 0 where
     caller : Caller
     calls : at side.lwk.callers r.1.tid.0 ≡ Some caller
     number : caller.request ≡ q
@@ -68,27 +68,27 @@ module _ (p : ℕ) (side : Side) (node : Node) (worker_count : ℕ) (ring_of : �
     there : at node.threads r.1.tid.0 ≡ Some thread
     own : thread.process ≡ p
 
-  caller-at : (q : ℕ) (r : ReqState × Call) → at rows q ≡ Some r → CallerAt q r
-  caller-at q r is = go (at side.lwk.callers r.1.tid.0) refl (sym (ap (λ (o : Option (ReqState × Call)). calls_it q (at side.lwk.callers (tid_in o))) is) ∙ k.answered.live q live)
+  caller-at : (q : ℕ) (r : ReqState × CallRequest) → at rows q ≡ Some r → CallerAt q r
+  caller-at q r is = go (at side.lwk.callers r.1.tid.0) refl (sym (ap (λ (o : Option (ReqState × CallRequest)). calls_it q (at side.lwk.callers (tid_in o))) is) ∙ k.answered.live q live)
     where
       live : is_live (state_at (at rows) q) ≡ true
-      live = ap (λ (o : Option (ReqState × Call)). is_live (elim o [ None ↦ Replied | Some s ↦ s.0 ])) is ∙ k.answered.not_replied q r is
+      live = ap (λ (o : Option (ReqState × CallRequest)). is_live (elim o [ None ↦ Replied | Some s ↦ s.0 ])) is ∙ k.answered.not_replied q r is
 
       go : (o : Option Caller) → at side.lwk.callers r.1.tid.0 ≡ o → calls_it q o ≡ true → CallerAt q r
       go None f u = absurd (grind (arith, u))
       go (Some c) f u = let x = k.calls.there r.1.tid.0 c f in record { caller = c; calls = f; number = grind (arith, nat_tests, u); thread = x.0; there = x.1; own = x.2 }
 
   -- the place of that thread
-  abbrev place_at : ℕ × (ReqState × Call) → ℕ
+  abbrev place_at : ℕ × (ReqState × CallRequest) → ℕ
   place_at e = (unwrap_or (at node.threads e.1.1.tid.0) no_thread).place
 
-  abbrev InBook : ℕ × (ReqState × Call) → Type 0
+  abbrev InBook : ℕ × (ReqState × CallRequest) → Type 0
   InBook e = at rows e.0 ≡ Some e.1
 
-  place-is : (e : ℕ × (ReqState × Call)) (i : InBook e) → place_at e ≡ (caller-at e.0 e.1 i).thread.place
+  place-is : (e : ℕ × (ReqState × CallRequest)) (i : InBook e) → place_at e ≡ (caller-at e.0 e.1 i).thread.place
   place-is e i = ap (λ (o : Option Thread). (unwrap_or o no_thread).place) (caller-at e.0 e.1 i).there
 
-  one-place : (e d : ℕ × (ReqState × Call)) → InBook e → InBook d → place_at e ≡ place_at d → e.0 ≡ d.0
+  one-place : (e d : ℕ × (ReqState × CallRequest)) → InBook e → InBook d → place_at e ≡ place_at d → e.0 ≡ d.0
   one-place e d i j g =
       let x = caller-at e.0 e.1 i in
       let y = caller-at d.0 d.1 j in
@@ -96,7 +96,7 @@ module _ (p : ℕ) (side : Side) (node : Node) (worker_count : ℕ) (ring_of : �
       let c : Some x.caller ≡ Some y.caller = sym x.calls ∙ ap (at side.lwk.callers) t ∙ y.calls in
       sym x.number ∙ ap (λ (o : Option Caller). (unwrap_or o x.caller).request) c ∙ y.number
 
-  below : (e : ℕ × (ReqState × Call)) → InBook e → place_at e < 16
+  below : (e : ℕ × (ReqState × CallRequest)) → InBook e → place_at e < 16
   below e i = let x = caller-at e.0 e.1 i in let a = places.below e.1.1.tid.0 x.thread x.there in let b = place-is e i in omega (arith, a, b)
 
   pub few-requests : count rows ≤ 16

@@ -3,7 +3,7 @@ use Rattle.hybrid_laws.proofs.requests.Serving.{Serves}
 use Rattle.hybrid_model.specs.Coherence.{holder, holder_at, service_at}
 use Rattle.hybrid_model.specs.Sides.{Book, LinuxSide, Service, no_service, serves, service_of, state_in, stated, with_state}
 use Rattle.hybrid_model.specs.Tallies.{Reads}
-use Rattle.ikc_ring.specs.declared.Call.{Call}
+use Rattle.ikc_ring.specs.declared.CallRequest.{CallRequest}
 use Rattle.mck_word.specs.MapLaws.{at-cut, at-put}
 use Rattle.mck_word.specs.Maps.{Map, at, count, cut, entries, put}
 use Rattle.request_book.specs.declared.ReqState.TheVariants.{Held}
@@ -23,7 +23,7 @@ pub service-left : (m : Map Service) (k j : ℕ) → (j == k) ≡ false → serv
 service-left m k j e = ap (λ (o : Option Service). unwrap_or o no_service) (at-cut m k j ∙ ap (λ b. cond b None (at m j)) e)
 
 -- a request that is Held and its worker
-pub worker-is : (rows : Reads (ReqState × Call)) (services : Reads Service) (q w : ℕ) (call : Call) → rows q ≡ Some (Held, call) → holder_at rows services q ≡ Some w → (service_at services q).worker ≡ w
+pub worker-is : (rows : Reads (ReqState × CallRequest)) (services : Reads Service) (q w : ℕ) (call : CallRequest) → rows q ≡ Some (Held, call) → holder_at rows services q ≡ Some w → (service_at services q).worker ≡ w
 worker-is rows services q w call is h =
     let a = ap (λ o. holder (state_in o) (service_at services q).worker) is in
     ap (λ (o : Option ℕ). unwrap_or o 0) (sym a ∙ h)
@@ -36,7 +36,7 @@ module _ (l : LinuxSide) (b : Book) (w : ℕ) (s : ReqState) (x : Serves l b w s
   row-is = ap (at b.rows) (sym number-is) ∙ x.is
 
 -- a request in another state, while each other counts as before
-pub stated-row : (f g : ℕ × (ReqState × Call) → ℕ) (b : Book) (q : ℕ) (s s' : ReqState) (call : Call) → at b.rows q ≡ Some (s, call) → ((j : ℕ) (u : ReqState × Call) → (j == q) ≡ false → at b.rows j ≡ Some u → g (j, u) ≡ f (j, u))
+pub stated-row : (f g : ℕ × (ReqState × CallRequest) → ℕ) (b : Book) (q : ℕ) (s s' : ReqState) (call : CallRequest) → at b.rows q ≡ Some (s, call) → ((j : ℕ) (u : ReqState × CallRequest) → (j == q) ≡ false → at b.rows j ≡ Some u → g (j, u) ≡ f (j, u))
     → sum_by g (entries (with_state b q s').rows) + f (q, (s, call)) ≡ sum_by f (entries b.rows) + g (q, (s', call))
 stated-row f g b q s s' call is others =
     let a = row-put f g b.rows q (s, call) is others (s', call) in
@@ -44,9 +44,9 @@ stated-row f g b q s s' call is others =
     omega (arith, a, c)
 
 -- a request in another state: there are as many
-pub count-stated : (s : ReqState) (q : ℕ) (rows : Map (ReqState × Call)) → count (stated s (at rows q) q rows) ≡ count rows
+pub count-stated : (s : ReqState) (q : ℕ) (rows : Map (ReqState × CallRequest)) → count (stated s (at rows q) q rows) ≡ count rows
 count-stated s q rows = go (at rows q) refl
   where
-    go : (o : Option (ReqState × Call)) → at rows q ≡ o → count (stated s o q rows) ≡ count rows
+    go : (o : Option (ReqState × CallRequest)) → at rows q ≡ o → count (stated s o q rows) ≡ count rows
     go None e = refl
     go (Some r) e = count-stays rows q (s, r.1) (ap is_some e)

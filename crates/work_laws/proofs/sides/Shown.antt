@@ -7,7 +7,7 @@ use Rattle.hybrid_model.specs.Answer.{thread_served}
 use Rattle.hybrid_model.specs.Pairs.{Here, Pair, here, side_of}
 use Rattle.hybrid_model.specs.Shown.{one, shown_call, shown_own}
 use Rattle.hybrid_model.specs.Sides.{Caller, Service, Side, new_side, service_of}
-use Rattle.ikc_ring.specs.declared.Call.{Call}
+use Rattle.ikc_ring.specs.declared.CallRequest.{CallRequest}
 use Rattle.kernel_model.specs.Nodes.{Thread, no_thread, thread_of}
 use Rattle.kernel_model.specs.OneKernel.{Active, Call as OneCall, OneHere, Own, no_own, one_here}
 use Rattle.kernel_model.specs.Steps.{active, has_call, holds_of, is_active, no_call, progress_at, progress_in}
@@ -42,7 +42,7 @@ module _ (pair : Pair) (c : Coherent pair) where
           calls s (ap (λ (o : Option Side). unwrap_or o (new_side 0)) e) (at s.lwk.callers t) refl d
 
   -- ---- the call of a request that a worker holds
-  module _ (p : ℕ) (present : at pair.sides p ≡ Some (side_of pair p)) (w n : ℕ) (call : Call) (serving : at (side_of pair p).linux.workers w ≡ Some n) (is : at (side_of pair p).book.rows n ≡ Some (Held, call)) where
+  module _ (p : ℕ) (present : at pair.sides p ≡ Some (side_of pair p)) (w n : ℕ) (call : CallRequest) (serving : at (side_of pair p).linux.workers w ≡ Some n) (is : at (side_of pair p).book.rows n ≡ Some (Held, call)) where
     abbrev h : Here
     h = here pair p
 

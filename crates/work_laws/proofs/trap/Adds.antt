@@ -3,25 +3,26 @@ use Rattle.file_model.specs.Errno.{EAGAIN, ENOMEM, ENOSYS}
 use Rattle.file_model.specs.Files.{share}
 use Rattle.hybrid_laws.proofs.maps.Sums.{total-put}
 use Rattle.isa_model.specs.Memory.{may_access}
-use Rattle.isa_model.specs.Registers.{reg}
 use Rattle.isa_model.specs.declared.stops.Stop.TheVariants.{Break, Ecall, Illegal, Misaligned, On, Fault as StopFault}
 use Rattle.isa_model.specs.declared.stops.Stop.{Stop}
-use Rattle.kernel_model.specs.Calls.{local_call, one_of_calls}
+use Rattle.kernel_model.specs.Calls.{clone_call, local_call, one_of_calls}
 use Rattle.kernel_model.specs.CloneCalls.{CallDone, are_fork_flags, child_process, child_thread, clone, clone_or_fork, forks, with_child}
 use Rattle.kernel_model.specs.LocalCalls.{answers, refuses}
 use Rattle.kernel_model.specs.MemoryCalls.{Decision, Now, Reply, Round, decide}
 use Rattle.kernel_model.specs.Nodes.{Node, answered, most_processes, process_of, set_pc, stop_in, thread_of}
-use Rattle.kernel_model.specs.Plans.{Delegated, Local, Plan, Unknown, Vm, plan}
 use Rattle.kernel_model.specs.Signals.{View, on_node, raised, signal_of_stop, store}
-use Rattle.kernel_model.specs.Traps.{Begins, Changes, Done, Forks, Trapped, arguments_of, cloned, decided, past_ecall, planned, trap, trap_of_stop}
+use Rattle.kernel_model.specs.Traps.{Begins, Changes, Done, Forks, Trapped, arguments_of, call_named, called, cloned, decided, past_ecall, trap, trap_of_stop}
 use Rattle.kernel_model.specs.declared.Does.TheVariants.{InVm}
 use Rattle.mck_word.specs.Maps.{count}
 use Rattle.mck_word.specs.Words.{has_bit, little_endian, refused}
 use Rattle.mck_word.specs.declared.Access.TheVariants.{Write}
 use Rattle.mck_word.specs.declared.Regs.{Regs}
 use Rattle.std.proofs.Common.{ap, arith, refl}
-use Rattle.std.specs.Prelude.{Bool, List, None, Option, Some, cond, false, get_or, length, nat_le, nat_lt, pos, true, ℕ, ℤ, ◌+◌, ◌==◌, ◌≡◌, ◌≤◌}
-use Rattle.work_laws.proofs.calls.Plans.{most_call, plan-few}
+use Rattle.std.specs.Prelude.{Bool, List, None, Option, Some, cond, false, get_or, length, nat_le, nat_lt, pos, true, ℕ, ℤ, ◌+◌, ◌≡◌, ◌≤◌}
+use Rattle.system_calls.specs.declared.LocalCall.{LocalCall}
+use Rattle.system_calls.specs.declared.SystemCall.{SystemCall}
+use Rattle.system_calls.specs.declared.SystemCall.TheVariants.{Clone, File, Local, Memory}
+use Rattle.work_laws.proofs.calls.Begins.{most_call, phases-few}
 use Rattle.work_laws.proofs.node.CallsAdd.{calls-add, clone-adds}
 use Rattle.work_laws.proofs.node.Left.{Adds, adds-more, adds-none, adds-then, answered-adds, does-adds, raised-adds, thread-adds}
 use Rattle.work_laws.proofs.node.Signals.{no-signals}
@@ -98,25 +99,25 @@ module _ (k : Prices) (t free : ℕ) (v : View) where
       go true false false = forks-adds flags stack parent_tid tls child_tid
       go false c d = one (clone t flags stack parent_tid tls child_tid behind) (clone-adds k t flags stack parent_tid tls child_tid behind)
 
-  local-adds : (number : ℕ) (arguments : List ℕ) → TrapAdds k v (cloned (local_call t free number arguments behind))
+  cloned-adds : (arguments : List ℕ) → TrapAdds k v (cloned (clone_call t free arguments behind))
+  unfolding clone_call
+  cloned-adds arguments = fork-adds (get_or arguments 0 0) (get_or arguments 1 0) (get_or arguments 2 0) (get_or arguments 3 0) (get_or arguments 4 0)
+
+  local-adds : (call : LocalCall) (arguments : List ℕ) → TrapAdds k v (Done (local_call t call arguments behind))
   unfolding local_call
-  local-adds number arguments = go (number == 220) (fork-adds (get_or arguments 0 0) (get_or arguments 1 0) (get_or arguments 2 0) (get_or arguments 3 0) (get_or arguments 4 0))
-    where
-      go : (b : Bool) → TrapAdds k v (cloned (clone_or_fork t free (get_or arguments 0 0) (get_or arguments 1 0) (get_or arguments 2 0) (get_or arguments 3 0) (get_or arguments 4 0) behind))
-          → TrapAdds k v (cloned (cond b (clone_or_fork t free (get_or arguments 0 0) (get_or arguments 1 0) (get_or arguments 2 0) (get_or arguments 3 0) (get_or arguments 4 0) behind) (CallDone (one_of_calls t number (λ j. get_or arguments j 0) behind))))
-      go true i = i
-      go false i = one (one_of_calls t number (λ j. get_or arguments j 0) behind) (calls-add k t number (λ j. get_or arguments j 0) behind)
+  local-adds call arguments = one (one_of_calls t call (λ j. get_or arguments j 0) behind) (calls-add k t call (λ j. get_or arguments j 0) behind)
 
   decided-adds : (d : Decision) → TrapAdds k v (decided t behind d)
   decided-adds (Reply answer) = answers-one answer
   decided-adds (Now change) = past
   decided-adds (Round change) = adds-more k v.node _ (0 + k.change) (1 + k.change) (omega arith) (adds-then k v.node behind.node _ 0 k.change past (does-adds k behind.node t (InVm change)))
 
-  planned-adds : (is : Plan) → plan (reg own_regs 17) (arguments_of own_regs) ≡ is → TrapAdds k v (planned t free own_regs behind is)
-  planned-adds Unknown e = answers-one (refused ENOSYS)
-  planned-adds Local e = local-adds (reg own_regs 17) (arguments_of own_regs)
-  planned-adds Vm e = decided-adds (decide (process_of behind.node (thread_of behind.node t).process) v.memory free (reg own_regs 17) (arguments_of own_regs))
-  planned-adds (Delegated phases) e = (past, plan-few (reg own_regs 17) (arguments_of own_regs) phases e)
+  called-adds : (o : Option SystemCall) → TrapAdds k v (called t free own_regs behind o)
+  called-adds None = answers-one (refused ENOSYS)
+  called-adds (Some Clone) = cloned-adds (arguments_of own_regs)
+  called-adds (Some (Local call)) = local-adds call (arguments_of own_regs)
+  called-adds (Some (Memory call)) = decided-adds (decide (process_of behind.node (thread_of behind.node t).process) v.memory free call (arguments_of own_regs))
+  called-adds (Some (File call)) = (past, phases-few call (arguments_of own_regs))
 
   pub trap-adds : TrapAdds k v (trap t free v)
   unfolding trap
@@ -127,7 +128,7 @@ module _ (k : Prices) (t free : ℕ) (v : View) where
 
       go : (o : Option Stop) → TrapAdds k v (trap_of_stop t free v o)
       go None = adds-more k v.node v.node 0 (1 + k.change) (omega arith) (adds-none k v.node)
-      go (Some Ecall) = planned-adds (plan (reg own_regs 17) (arguments_of own_regs)) refl
+      go (Some Ecall) = called-adds (call_named own_regs)
       go (Some On) = raise On
       go (Some Break) = raise Break
       go (Some Illegal) = raise Illegal

@@ -8,17 +8,15 @@ use Rattle.hybrid_laws.proofs.node.Threads.{thread-other}
 use Rattle.hybrid_laws.specs.Stopped.{stops}
 use Rattle.hybrid_model.specs.Tallies.{as_number}
 use Rattle.isa_model.specs.Memory.{may_access}
-use Rattle.isa_model.specs.Registers.{reg}
 use Rattle.isa_model.specs.declared.stops.Stop.TheVariants.{Break, Ecall, Illegal, Misaligned, On, Fault as StopFault}
 use Rattle.isa_model.specs.declared.stops.Stop.{Stop}
-use Rattle.kernel_model.specs.Calls.{local_call, one_of_calls}
+use Rattle.kernel_model.specs.Calls.{clone_call, local_call, one_of_calls}
 use Rattle.kernel_model.specs.CloneCalls.{CallDone, are_clone_flags, are_fork_flags, child_process, child_thread, clone, clone_or_fork, cloned_thread, clones, forks, with_child, with_thread}
 use Rattle.kernel_model.specs.LocalCalls.{refuses}
 use Rattle.kernel_model.specs.MemoryCalls.{Decision, Now, Reply, Round, decide}
 use Rattle.kernel_model.specs.Nodes.{Node, Process, Thread, answered, instructions_in_all, is_stopped, most_processes, most_threads, process_of, set_a0, set_does, stop_in, thread_of, threads_of}
-use Rattle.kernel_model.specs.Plans.{Delegated, Local, Plan, Unknown, Vm, plan}
 use Rattle.kernel_model.specs.Signals.{View, on_node, raised, signal_of_stop, store}
-use Rattle.kernel_model.specs.Traps.{Begins, Changes, Done, Forks, Trapped, arguments_of, cloned, decided, past_ecall, planned, trap, trap_of_stop}
+use Rattle.kernel_model.specs.Traps.{Begins, Changes, Done, Forks, Trapped, arguments_of, call_named, called, cloned, decided, past_ecall, trap, trap_of_stop}
 use Rattle.kernel_model.specs.declared.Does.TheVariants.{InVm, Ready}
 use Rattle.mck_word.specs.MapLaws.{at-cut, at-put}
 use Rattle.mck_word.specs.Maps.{at, count, cut, put, total}
@@ -27,6 +25,9 @@ use Rattle.mck_word.specs.declared.Access.TheVariants.{Write}
 use Rattle.mck_word.specs.declared.Regs.{Regs}
 use Rattle.std.proofs.Common.{ap, arith, refl, subst, sym, ◌∙◌}
 use Rattle.std.specs.Prelude.{Bool, List, None, Option, Some, cond, false, get_or, length, nat_le, nat_lt, not, pos, true, ℕ, ℤ, ◌+◌, ◌==◌, ◌≡◌, ◌≤◌}
+use Rattle.system_calls.specs.declared.LocalCall.{LocalCall}
+use Rattle.system_calls.specs.declared.SystemCall.{SystemCall}
+use Rattle.system_calls.specs.declared.SystemCall.TheVariants.{Clone, File, Local, Memory}
 use Rattle.work_laws.proofs.node.Calmer.{Along, along}
 use Rattle.work_laws.proofs.node.Settled.{Settled, answered-settled, calls-settled, does-settled, raised-settled}
 
@@ -195,25 +196,25 @@ module _ (t free : ℕ) (v : View) (fresh : at v.node.processes v.node.next_numb
         go false c d = clone-ends
 
   -- ---- all calls
-  local-ends : (number : ℕ) (arguments : List ℕ) → TrapEnds t v.node (cloned (local_call t free number arguments behind))
+  cloned-ends : (arguments : List ℕ) → TrapEnds t v.node (cloned (clone_call t free arguments behind))
+  unfolding clone_call
+  cloned-ends arguments = fork-ends (get_or arguments 0 0) (get_or arguments 1 0) (get_or arguments 2 0) (get_or arguments 3 0) (get_or arguments 4 0)
+
+  local-ends : (call : LocalCall) (arguments : List ℕ) → TrapEnds t v.node (Done (local_call t call arguments behind))
   unfolding local_call
-  local-ends number arguments = go (number == 220) (fork-ends (get_or arguments 0 0) (get_or arguments 1 0) (get_or arguments 2 0) (get_or arguments 3 0) (get_or arguments 4 0))
-    where
-      go : (b : Bool) → TrapEnds t v.node (cloned (clone_or_fork t free (get_or arguments 0 0) (get_or arguments 1 0) (get_or arguments 2 0) (get_or arguments 3 0) (get_or arguments 4 0) behind))
-          → TrapEnds t v.node (cloned (cond b (clone_or_fork t free (get_or arguments 0 0) (get_or arguments 1 0) (get_or arguments 2 0) (get_or arguments 3 0) (get_or arguments 4 0) behind) (CallDone (one_of_calls t number (λ j. get_or arguments j 0) behind))))
-      go true i = i
-      go false i = done (one_of_calls t number (λ j. get_or arguments j 0) behind) (calls-closed t Along Along (along t) number (λ j. get_or arguments j 0) behind) (calls-settled t number (λ j. get_or arguments j 0) behind)
+  local-ends call arguments = done (one_of_calls t call (λ j. get_or arguments j 0) behind) (calls-closed t Along Along (along t) call (λ j. get_or arguments j 0) behind) (calls-settled t call (λ j. get_or arguments j 0) behind)
 
   decided-ends : (d : Decision) → TrapEnds t v.node (decided t behind d)
   decided-ends (Reply answer) = answers-done answer
   decided-ends (Now change) = past
   decided-ends (Round change) = done (on_node (set_does t (InVm change)) behind) (does-closed t Along Along (along t) behind.node (InVm change) refl) (does-settled t behind.node (InVm change) refl)
 
-  planned-ends : (is : Plan) → TrapEnds t v.node (planned t free own_regs behind is)
-  planned-ends Unknown = answers-done (refused ENOSYS)
-  planned-ends Local = local-ends (reg own_regs 17) (arguments_of own_regs)
-  planned-ends Vm = decided-ends (decide (process_of behind.node (thread_of behind.node t).process) v.memory free (reg own_regs 17) (arguments_of own_regs))
-  planned-ends (Delegated phases) = past
+  called-ends : (o : Option SystemCall) → TrapEnds t v.node (called t free own_regs behind o)
+  called-ends None = answers-done (refused ENOSYS)
+  called-ends (Some Clone) = cloned-ends (arguments_of own_regs)
+  called-ends (Some (Local call)) = local-ends call (arguments_of own_regs)
+  called-ends (Some (Memory call)) = decided-ends (decide (process_of behind.node (thread_of behind.node t).process) v.memory free call (arguments_of own_regs))
+  called-ends (Some (File call)) = past
 
   pub trap-ends : (stop : Stop) → stop_in (thread_of v.node t).does ≡ Some stop → TrapEnds t v.node (trap t free v)
   unfolding trap
@@ -224,7 +225,7 @@ module _ (t free : ℕ) (v : View) (fresh : at v.node.processes v.node.next_numb
 
       go : (o : Option Stop) → o ≡ Some stop → TrapEnds t v.node (trap_of_stop t free v o)
       go None e = absurd (grind (arith, e))
-      go (Some Ecall) e = planned-ends (plan (reg own_regs 17) (arguments_of own_regs))
+      go (Some Ecall) e = called-ends (call_named own_regs)
       go (Some On) e = raise On
       go (Some Break) e = raise Break
       go (Some Illegal) e = raise Illegal

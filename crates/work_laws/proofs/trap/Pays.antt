@@ -11,7 +11,7 @@ use Rattle.kernel_model.specs.declared.Does.TheVariants.{Called}
 use Rattle.std.proofs.Common.{ap, arith, refl}
 use Rattle.std.proofs.Math.Nat.{mul-le-mul_left}
 use Rattle.std.specs.Prelude.{None, false, ℕ, ◌*◌, ◌+◌, ◌≡◌, ◌≤◌}
-use Rattle.work_laws.proofs.calls.Plans.{most_call}
+use Rattle.work_laws.proofs.calls.Begins.{most_call}
 use Rattle.work_laws.proofs.node.Left.{Adds, adds-then, does-adds, process-adds}
 use Rattle.work_laws.proofs.node.Steps.{finishes-adds}
 use Rattle.work_laws.proofs.steps.OneProcess.{IsNew, OnePays}

@@ -1,6 +1,5 @@
 use Rattle.file_model.specs.Errno.{EFAULT, EINVAL}
-use Rattle.lwk_calls.specs.SignalWords.{is_wrong_action, lacks_access}
-use Rattle.lwk_space.specs.Lacks.{memory}
+use Rattle.lwk_calls.specs.SignalWords.{is_wrong_action}
 use Rattle.mck_word.specs.Words.{refused}
 use Rattle.std.proofs.Common.{None, Some, ap, cond, of_z, rules, sym, to_z, w32, ◌≡◌, ◌∙◌}
 use Rattle.lwk_calls.proofs.actions.action_refusal.Goals as goal

@@ -1,6 +1,6 @@
 use Rattle.isa_model.specs.Memory.{may_access, write_bytes}
-use Rattle.kernel_model.specs.Nodes.{Node as KernelNode, Thread, change_process, change_thread, dies}
-use Rattle.kernel_model.specs.Signals.{View, after_reset, enter_handler, frame_bytes, frame_size, interrupted_regs, on_node}
+use Rattle.kernel_model.specs.Nodes.{Node as KernelNode, change_process, dies}
+use Rattle.kernel_model.specs.Signals.{after_reset, enter_handler, frame_bytes, frame_size, interrupted_regs, on_node}
 use Rattle.lwk_calls.proofs.Delivering.{entered, enters, enters_not, enters_there, kills_entering}
 use Rattle.kernel_tables.specs.Shown.{node_of}
 use Rattle.lwk_space.specs.Lacks.{memory}

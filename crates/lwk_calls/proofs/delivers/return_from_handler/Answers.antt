@@ -1,5 +1,5 @@
 use Rattle.isa_model.specs.Memory.{may_access, read_bytes}
-use Rattle.kernel_model.specs.Signals.{frame_size, mask_in, on_node, raised, restored, return_from_handler}
+use Rattle.kernel_model.specs.Signals.{frame_size, on_node, raised, return_from_handler}
 use Rattle.isa_model.specs.Registers.{reg}
 use Rattle.lwk_calls.proofs.Delivering.{comes_back, comes_not, goes_back}
 use Rattle.lwk_space.specs.Lacks.{memory}

@@ -1,4 +1,4 @@
-use Rattle.lwk_calls.specs.SignalWords.{readable, writable}
+use Rattle.lwk_calls.specs.SignalWords.{writable}
 use Rattle.lwk_space.specs.Lacks.{memory}
 use Rattle.std.proofs.Common.{ap, not, sym, ◌∙◌}
 use Rattle.std.specs.Prelude.{◌||◌}

@@ -1,4 +1,3 @@
-use Rattle.isa_model.specs.Registers.{reg}
 use Rattle.kernel_model.specs.MemoryCalls.{Decision, decide}
 use Rattle.kernel_model.specs.Nodes.{Node, process_of}
 use Rattle.kernel_model.specs.OneKernel.{OneHere}
@@ -20,8 +19,8 @@ does_as_planned-requires-clause-room c = λ files.
     let node = node_of c.args.node.now files in
     let regs = c.args.regs.now in
     let e = c.past_ecall.ensures.node files in
-    let d : decision c.plan_call-plan.result ≡ decide (process_of node p) m free (reg regs 17) (arguments_of regs) =
-    c.plan_call-plan.ensures.is files ∙ (λ i. decide (process_of (e i) p) m free (c.call_number.ensures i) (c.arguments_of.ensures i)) in
+    let d : decision c.plan_call-plan.result ≡ decide (process_of node p) m free c.args.call (arguments_of regs) =
+    c.plan_call-plan.ensures.is files ∙ (λ i. decide (process_of (e i) p) m free c.args.call (c.arguments_of.ensures i)) in
     subst (λ (n : Node). HasRoomFor c.args.memory.now.spare (process_of n p).program_break (at_once (decision c.plan_call-plan.result))) (sym e)
     (subst (λ (x : Decision). HasRoomFor c.args.memory.now.spare (process_of node p).program_break (at_once x)) (sym d) (c.requires.room files))
 
@@ -34,7 +33,7 @@ returns c = λ r.
     let h : OneHere = here c.args.node.now m (record r { free = free }) in
     let regs = c.args.regs.now in
     let e = c.past_ecall.ensures.node r.files in
-    let d = c.plan_call-plan.ensures.is r.files ∙ (λ i. decide (process_of (e i) p) m free (c.call_number.ensures i) (c.arguments_of.ensures i)) in
+    let d = c.plan_call-plan.ensures.is r.files ∙ (λ i. decide (process_of (e i) p) m free c.args.call (c.arguments_of.ensures i)) in
     c.does_as_planned.ensures r
     ∙ (λ i. one_trapped p t (decided t (one_view (with_node (e i) h)) (d i)) (with_node (e i) h))
-    ∙ memory-call-is p t free regs h (c.requires.own r.files)
+    ∙ memory-call-is p t free c.args.call regs h (c.requires.own r.files)

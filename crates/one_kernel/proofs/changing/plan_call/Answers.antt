@@ -4,7 +4,7 @@ use Rattle.std.proofs.Common.{arith}
 
 pub decide-requires-clause-small : goal.decide-requires-clause-small
 decide-requires-clause-small c =
-    let brk = c.program_break.ensures root_only in
+    let brk = c.program_break-brk.ensures root_only in
     let fits = c.requires root_only in
     let base = fits.base in
     let limit = fits.limit in
@@ -12,6 +12,6 @@ decide-requires-clause-small c =
 
 pub decide-requires-clause-heap : goal.decide-requires-clause-heap
 decide-requires-clause-heap c =
-    let e = c.heap_base.ensures root_only in
+    let e = c.heap_base-base.ensures root_only in
     let base = (c.requires root_only).base in
     omega (arith, e, base)

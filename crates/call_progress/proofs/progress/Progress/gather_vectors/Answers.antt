@@ -1,7 +1,7 @@
 use Rattle.std.proofs.Common.{◌≡◌, List, ℕ, true, drop, length, get_or, sym, ap, ◌∙◌}
 use Rattle.std.specs.Prelude.{◌==◌}
 use Rattle.call_progress.specs.Kept.{Kept}
-use Rattle.kernel_model.specs.Plans.{Act}
+use Rattle.kernel_model.specs.CallPhases.{Act}
 use Rattle.kernel_model.specs.Progress.{advanced, ranges_left, ranges_of, without_empty}
 use Rattle.call_progress.proofs.VectorSteps.{over-vectors}
 use Rattle.call_progress.proofs.progress.Progress.gather_vectors.Goals as goal

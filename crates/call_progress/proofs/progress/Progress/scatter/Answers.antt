@@ -1,6 +1,6 @@
 use Rattle.std.proofs.Common.{List, ◌∷◌, drop, take, ap, ◌∙◌}
 use Rattle.call_progress.specs.Kept.{moved}
-use Rattle.kernel_model.specs.Plans.{Phase, Scatter}
+use Rattle.kernel_model.specs.CallPhases.{Phase, Scatter}
 use Rattle.kernel_model.specs.Progress.{advanced, ranges_left, settle}
 use Rattle.mck_word.specs.Lists.{spliced, tail}
 use Rattle.mck_word.specs.declared.parts.Piece.{Piece}

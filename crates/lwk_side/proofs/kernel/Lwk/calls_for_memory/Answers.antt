@@ -26,17 +26,17 @@ does_as_planned-requires-clause-room g c = λ files.
     let p = c.args.p.0 in
     let v = seen rows lwk.node lwk.frames files in
     let e = c.past_ecall.ensures.node files in
-    let d : decision c.plans_memory_call-plan.result ≡ decision_of t (length lwk.pool.free) c.args.number c.args.args.now v p =
-    c.plans_memory_call-plan.ensures.is files ∙ ap (λ (n : Node). decide (process_of n p) (memory rows lwk.frames) (length lwk.pool.free) c.args.number c.args.args.now) e in
+    let d : decision c.plans_memory_call-plan.result ≡ decision_of t (length lwk.pool.free) c.args.call c.args.args.now v p =
+    c.plans_memory_call-plan.ensures.is files ∙ ap (λ (n : Node). decide (process_of n p) (memory rows lwk.frames) (length lwk.pool.free) c.args.call c.args.args.now) e in
     subst (λ (n : Node). HasDecidedRoom has_room spare (process_of n p).program_break (decision c.plans_memory_call-plan.result)) (sym e)
     (subst (λ (x : Decision). HasDecidedRoom has_room spare (process_of (past_ecall t v).node p).program_break x) (sym d)
-    (decided-room has_room spare p t (past_ecall t v) (decision_of t (length lwk.pool.free) c.args.number c.args.args.now v p)
-    (subst (λ (x : Trapped). HasTrappedRoom has_room spare p x) (sym (memory-call-by p t (length lwk.pool.free) c.args.number c.args.args.now v (c.requires.own files))) (c.requires.room files))))
+    (decided-room has_room spare p t (past_ecall t v) (decision_of t (length lwk.pool.free) c.args.call c.args.args.now v p)
+    (subst (λ (x : Trapped). HasTrappedRoom has_room spare p x) (sym (memory-call-by p t (length lwk.pool.free) c.args.call c.args.args.now v (c.requires.own files))) (c.requires.room files))))
 
 pub does_as_planned-requires-clause-ahead : goal.does_as_planned-requires-clause-ahead
 does_as_planned-requires-clause-ahead g c = λ files.
     let lwk = c.args.self.now in
-    decided-ahead (process_of (node_of c.past_ecall.new.self files) c.args.p.0) (memory (g.T.PageTable.rows c.args.task.now.space.table) lwk.frames) (length lwk.pool.free) c.args.number c.args.args.now
+    decided-ahead (process_of (node_of c.past_ecall.new.self files) c.args.p.0) (memory (g.T.PageTable.rows c.args.task.now.space.table) lwk.frames) (length lwk.pool.free) c.args.call c.args.args.now
     (decision c.plans_memory_call-plan.result) (sym (c.plans_memory_call-plan.ensures.is files))
 
 pub returns-clause-after : goal.returns-clause-after
@@ -47,8 +47,8 @@ returns-clause-after g c = λ channel r.
     let t = c.args.t.0 in
     let p = c.args.p.0 in
     let e = c.past_ecall.ensures.node r.files in
-    let d : decision c.plans_memory_call-plan.result ≡ decision_of t (length h.free) c.args.number c.args.args.now (view_here h) p =
-    c.plans_memory_call-plan.ensures.is r.files ∙ ap (λ (n : Node). decide (process_of n p) (memory rows lwk.frames) (length lwk.pool.free) c.args.number c.args.args.now) e in
+    let d : decision c.plans_memory_call-plan.result ≡ decision_of t (length h.free) c.args.call c.args.args.now (view_here h) p =
+    c.plans_memory_call-plan.ensures.is r.files ∙ ap (λ (n : Node). decide (process_of n p) (memory rows lwk.frames) (length lwk.pool.free) c.args.call c.args.args.now) e in
     c.does_as_planned.ensures.after channel r
     ∙ (λ i. trapped p t (decided t (view_here (with_node h (e i))) (d i)) (with_node h (e i)))
-    ∙ memory-call-is p t c.args.number c.args.args.now h (c.requires.own r.files)
+    ∙ memory-call-is p t c.args.call c.args.args.now h (c.requires.own r.files)

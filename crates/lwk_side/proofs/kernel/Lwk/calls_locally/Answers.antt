@@ -14,5 +14,5 @@ returns-clause-after g c = λ channel r.
     let lwk = c.args.self.now in
     let t = c.args.t.0 in
     let a : ℕ → ℕ = λ k. get_or c.args.args.now k 0 in
-    did-is lwk c.local_call.new.node c.local_call.new.mem rows c.args.task.now channel r (λ v. one_of_calls t c.args.number a (past_ecall t v))
-    (did-after rows lwk.node c.past_ecall.new.self c.local_call.new.node lwk.frames c.local_call.new.mem (behind t) (one_of_calls t c.args.number a) c.past_ecall.ensures.node c.local_call.ensures)
+    did-is lwk c.local_call.new.node c.local_call.new.mem rows c.args.task.now channel r (λ v. one_of_calls t c.args.call a (past_ecall t v))
+    (did-after rows lwk.node c.past_ecall.new.self c.local_call.new.node lwk.frames c.local_call.new.mem (behind t) (one_of_calls t c.args.call a) c.past_ecall.ensures.node c.local_call.ensures)

@@ -1,8 +1,6 @@
-use Rattle.kernel_model.specs.Plans.{plan}
 use Rattle.kernel_model.specs.Nodes.{stop_in}
-use Rattle.kernel_model.specs.Traps.{arguments_of, past_ecall, planned}
+use Rattle.kernel_model.specs.Traps.{call_named, called, past_ecall}
 use Rattle.kernel_model.specs.declared.Does.{Does}
-use Rattle.isa_model.specs.Registers.{reg}
 use Rattle.lwk_side.proofs.Changing.{trap-room}
 use Rattle.lwk_side.proofs.kernel.Lwk.make_trap_room.Goals as goal
 use Rattle.lwk_side.specs.Changing.{HasTrappedRoom, is_ecall}
@@ -22,7 +20,7 @@ returns-clause-room g c =
     let free = length lwk.pool.free in
     let v = seen (g.T.PageTable.rows own.table) lwk.node lwk.frames files in
     trap-room (g.T.PageTable.has_room own.table) own.areas.spare c.args.p.0 t free v
-    (λ e. subst (λ (x : Regs). HasTrappedRoom (g.T.PageTable.has_room own.table) own.areas.spare c.args.p.0 (planned t free x (past_ecall t v) (plan (reg x 17) (arguments_of x)))) (c.regs-regs.ensures files) (room files)))
+    (λ e. subst (λ (x : Regs). HasTrappedRoom (g.T.PageTable.has_room own.table) own.areas.spare c.args.p.0 (called t free x (past_ecall t v) (call_named x))) (c.regs-regs.ensures files) (room files)))
     c.make_call_room.ensures.room
 
 pub returns-then-not-stands_on_ecall-clause-room : goal.returns-then-not-stands_on_ecall-clause-room

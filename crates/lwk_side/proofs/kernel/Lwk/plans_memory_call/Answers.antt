@@ -27,4 +27,4 @@ returns-clause-is g c = λ files.
     let m = memory (g.T.PageTable.rows c.args.space.now.table) pages in
     let p = process_of (node_of c.args.self.now.node files) c.args.p.0 in
     c.decide.ensures.decides p m pages (c.program_break-brk.ensures files) (c.heap_base-base.ensures files) refl
-    ∙ ap (λ (free : ℕ). decide p m free c.args.number c.args.args.now) c.free.ensures
+    ∙ ap (λ (free : ℕ). decide p m free c.args.call c.args.args.now) c.free.ensures

@@ -1,8 +1,7 @@
 use Rattle.hybrid_model.specs.OneProcess.{ran_last}
-use Rattle.kernel_model.specs.Nodes.{stop_in, thread_of}
+use Rattle.kernel_model.specs.Nodes.{stop_in}
 use Rattle.kernel_model.specs.Traps.{Trapped, trap, trap_of_stop}
 use Rattle.kernel_model.specs.declared.Does.{Does}
-use Rattle.kernel_tables.specs.Shown.{node_of}
 use Rattle.lwk_side.proofs.Planned.{after-stop}
 use Rattle.lwk_side.proofs.kernel.Lwk.trap.Goals as goal
 use Rattle.lwk_side.specs.Changing.{HasTrappedRoom}

@@ -1,11 +1,9 @@
 use Rattle.file_model.specs.Files.{root_only}
 use Rattle.hybrid_model.specs.OneProcess.{view_here}
 use Rattle.hybrid_model.specs.Trap.{trapped}
-use Rattle.isa_model.specs.Registers.{reg}
 use Rattle.isa_model.specs.declared.stops.Stop.{Stop}
 use Rattle.kernel_model.specs.Nodes.{thread_of}
-use Rattle.kernel_model.specs.Plans.{plan}
-use Rattle.kernel_model.specs.Traps.{Trapped, arguments_of, past_ecall, planned, trap_of_stop}
+use Rattle.kernel_model.specs.Traps.{Trapped, call_named, called, past_ecall, trap_of_stop}
 use Rattle.kernel_tables.specs.Shown.{node_of}
 use Rattle.lwk_side.proofs.Planned.{raises-signal}
 use Rattle.lwk_side.proofs.kernel.Lwk.trap_of_stop.Goals as goal
@@ -23,10 +21,10 @@ call-requires-clause-place g c = λ e. c.requires.place root_only
     (ap (λ (s : Stop). begins_at (thread_of (node_of c.args.self.now.node root_only) c.args.t.0).regs (Some s)) c.in-Ecall.is ∙ ap names_delegated (sym (c.regs-regs.ensures root_only)) ∙ e)
 
 pub call-requires-clause-rest : goal.call-requires-clause-rest
-call-requires-clause-rest g c = λ e. c.requires.rest root_only (ap (λ (x : Regs). reg x 17) (sym (c.regs-regs.ensures root_only)) ∙ e)
+call-requires-clause-rest g c = λ e. c.requires.rest root_only (ap call_named (sym (c.regs-regs.ensures root_only)) ∙ e)
 
 pub call-requires-clause-clone : goal.call-requires-clause-clone
-call-requires-clause-clone g c = λ e. c.requires.clone root_only (ap (λ (x : Regs). reg x 17) (sym (c.regs-regs.ensures root_only)) ∙ e)
+call-requires-clause-clone g c = λ e. c.requires.clone root_only (ap call_named (sym (c.regs-regs.ensures root_only)) ∙ e)
 
 pub call-requires-clause-no_fork : goal.call-requires-clause-no_fork
 call-requires-clause-no_fork g c =
@@ -40,7 +38,7 @@ call-requires-clause-change g c = λ files.
     let t = c.args.t.0 in
     let free = length lwk.pool.free in
     let v = seen (g.T.PageTable.rows own.table) lwk.node lwk.frames files in
-    let made = ap (λ (s : Stop). trap_of_stop t free v (Some s)) c.in-Ecall.is ∙ ap (λ (x : Regs). planned t free x (past_ecall t v) (plan (reg x 17) (arguments_of x))) (sym (c.regs-regs.ensures files)) in
+    let made = ap (λ (s : Stop). trap_of_stop t free v (Some s)) c.in-Ecall.is ∙ ap (λ (x : Regs). called t free x (past_ecall t v) (call_named x)) (sym (c.regs-regs.ensures files)) in
     subst (λ (x : Trapped). HasTrappedRoom (g.T.PageTable.has_room own.table) own.areas.spare c.args.p.0 x) made (c.requires.change files)
 
 pub returns-in-Ecall-clause-after : goal.returns-in-Ecall-clause-after
@@ -50,7 +48,7 @@ returns-in-Ecall-clause-after g c = λ r.
     let t = c.args.t.0 in
     let free = length h.free in
     c.call.ensures.after r
-    ∙ ap (λ (x : Regs). trapped p t (planned t free x (past_ecall t (view_here h)) (plan (reg x 17) (arguments_of x))) h) (c.regs-regs.ensures r.files)
+    ∙ ap (λ (x : Regs). trapped p t (called t free x (past_ecall t (view_here h)) (call_named x)) h) (c.regs-regs.ensures r.files)
     ∙ ap (λ (s : Stop). trapped p t (trap_of_stop t free (view_here h) (Some s)) h) (sym c.in-Ecall.is)
 
 pub returns-in_default-clause-after : goal.returns-in_default-clause-after

@@ -2,11 +2,10 @@ use Rattle.one_calls.specs.LocalTraps.{calls_fork}
 use Rattle.one_kernel.proofs.ChangeRooms.{on-ok}
 use Rattle.one_kernel.proofs.MadeTraps.{keeps, made, made-call, made-change, made-fork, made-local, node-state, told-after}
 use Rattle.one_kernel.proofs.parts.One.make_trap_room.Goals as goal
-use Rattle.one_kernel.specs.Parts.{one_of}
 use Rattle.node_machine.specs.Reached.{IsShown}
 use Rattle.one_kernel.specs.Trapping.{begins_call, calls_memory}
 use Rattle.one_kernel.specs.declared.parts.One.{One}
-use Rattle.std.proofs.Common.{arith, refl, subst, sym, ◌∙◌, ◌≡◌, ◌≤◌}
+use Rattle.std.proofs.Common.{arith, refl, subst, sym, ◌∙◌}
 
 pub returns-in_err-reserve_sleeper-clause-state : goal.returns-in_err-reserve_sleeper-clause-state
 returns-in_err-reserve_sleeper-clause-state c = node-state c.args.self.now c.reserve_sleeper.new.self c.reserve_sleeper.ensures.node

@@ -1,11 +1,10 @@
 use Rattle.kernel_model.specs.declared.steps.Step.TheVariants.{Trap}
 use Rattle.one_kernel.proofs.After.{after-is, process-is}
 use Rattle.one_kernel.proofs.Calling.{both}
-use Rattle.one_kernel.proofs.ChangeRooms.{memory-of, own-there, rest_of, room-in, stands-in, trap-is}
+use Rattle.one_kernel.proofs.ChangeRooms.{calls-in, own-there, rest_of, room-in}
 use Rattle.one_kernel.proofs.Heaps.{heap-in, row-fits}
 use Rattle.one_kernel.proofs.parts.One.trap_memory.Goals as goal
-use Rattle.one_kernel.specs.Parts.{here_in}
-use Rattle.std.proofs.Common.{arith, refl, sym, ◌∙◌}
+use Rattle.std.proofs.Common.{arith, refl, sym}
 
 pub row_mut-own-requires : goal.row_mut-own-requires
 row_mut-own-requires c =
@@ -16,8 +15,8 @@ row_mut-own-requires c =
 pub trap_memory-requires-clause-own : goal.trap_memory-requires-clause-own
 trap_memory-requires-clause-own c = λ files. sym (c.process_of_thread-p.ensures files)
 
-pub trap_memory-requires-clause-stopped : goal.trap_memory-requires-clause-stopped
-trap_memory-requires-clause-stopped c = stands-in c.args.self.now c.args.t.0 c.requires.memory
+pub trap_memory-requires-clause-memory : goal.trap_memory-requires-clause-memory
+trap_memory-requires-clause-memory c = calls-in c.args.self.now c.args.t.0 c.requires.memory
 
 pub trap_memory-requires-clause-heap : goal.trap_memory-requires-clause-heap
 trap_memory-requires-clause-heap c = heap-in c.args.self.now c.process_of_thread-p.result.0 c.requires.ready.shown
@@ -41,4 +40,4 @@ returns c =
     let p = c.process_of_thread-p.result.0 in
     let w = c.row_mut-own.result.now in
     after-is x _ p w _ (Trap c.args.t) c.row_mut-own.ensures.value refl (process-is x c.args.t.0 p c.process_of_thread-p.ensures)
-    (c.trap_memory.ensures (rest_of x w) ∙ trap-is p c.args.t.0 (here_in x w) (stands-in x c.args.t.0 c.requires.memory _) (memory-of x c.args.t.0 c.requires.memory))
+    (c.trap_memory.ensures (rest_of x w))

@@ -1,4 +1,0 @@
-pub mod Planned
-pub mod Ranges
-pub mod Stages
-pub mod StreamBytes
