@@ -1,10 +1,11 @@
 // Passing over the offers of the actors behind one of them, from its own place on.
 ghost use Rattle.ihk_parts.specs.Passing.{Goes, numbers_behind, on_from, workers_from};
 ghost use Rattle.mck_word.specs.Maps.{keys};
+ghost use Rattle.quiet_laws.specs.Quiet.{IsQuiet};
 ghost use Rattle.run_model.specs.Walks.{actors, all_workers, behind};
 ghost use Rattle.run_model.specs.declared.actors.Actor.TheVariants.{Core, Worker, Linux};
 ghost use Rattle.std.specs.Option.{option_copied, option_map};
-ghost use Rattle.std.specs.Prelude.{◌≡◌, ◌∷◌, map};
+ghost use Rattle.std.specs.Prelude.{◌≡◌, ◌∷◌, map, true};
 
 use crate::passing::{
     Choice, pass_from_core, pass_linux, pass_processes_and_script, pass_workers_from,
@@ -24,11 +25,18 @@ fn processes_behind<P: Offers>(machine: &P, pid: Pid) -> Option<&[Pid]>
     }
 }
 
-fn pass_behind_core<P: Offers>(machine: &P, core: u32, skip: &mut u32) -> Option<Choice>
-    ensures { Goes (P.pair machine.now) (behind (Core core) (actors (P.pair machine.now))) skip.old result skip.new }
+fn pass_behind_core<P: Offers>(
+    machine: &P,
+    core: u32,
+    skip: &mut u32,
+    quiet: &mut bool,
+) -> Option<Choice>
+    requires quiet { quiet.old ≡ true → IsQuiet (P.pair machine.now) }
+    ensures goes { Goes (P.pair machine.now) (behind (Core core) (actors (P.pair machine.now))) skip.old result skip.new }
+    ensures quiet { quiet.new ≡ true → IsQuiet (P.pair machine.now) }
 {
     if core < machine.cores() {
-        pass_from_core(machine, core + 1, skip)
+        pass_from_core(machine, core + 1, skip, quiet)
     } else {
         None
     }
@@ -72,11 +80,18 @@ fn pass_behind_worker<P: Offers>(
 }
 
 /// Passes over the offers of the actors behind this one.
-pub fn pass_behind<P: Offers>(machine: &P, last: Actor, skip: &mut u32) -> Option<Choice>
-    ensures { Goes (P.pair machine.now) (behind last (actors (P.pair machine.now))) skip.old result skip.new }
+pub fn pass_behind<P: Offers>(
+    machine: &P,
+    last: Actor,
+    skip: &mut u32,
+    quiet: &mut bool,
+) -> Option<Choice>
+    requires quiet { quiet.old ≡ true → IsQuiet (P.pair machine.now) }
+    ensures goes { Goes (P.pair machine.now) (behind last (actors (P.pair machine.now))) skip.old result skip.new }
+    ensures quiet { quiet.new ≡ true → IsQuiet (P.pair machine.now) }
 {
     match last {
-        Actor::Core(core) => pass_behind_core(machine, core, skip),
+        Actor::Core(core) => pass_behind_core(machine, core, skip, quiet),
         Actor::Kernel(pid) => pass_from_linux(machine, pid, skip),
         Actor::Linux(pid) => pass_from_worker(machine, pid, 0, skip),
         Actor::Worker(pid, worker) => pass_behind_worker(machine, pid, worker, skip),

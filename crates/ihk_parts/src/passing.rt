@@ -1,14 +1,16 @@
 // Passing over the offers of the actors in their order.
 ghost use Rattle.ihk_parts.specs.Passing.{Goes, as_chosen, cores_from, processes_and_script, workers_from};
 ghost use Rattle.mck_word.specs.Maps.{keys};
+ghost use Rattle.quiet_laws.specs.Quiet.{IsQuiet};
 ghost use Rattle.run_model.specs.Walks.{actors, actors_of_process, all_workers, chosen_by};
 ghost use Rattle.run_model.specs.declared.actors.Actor.TheVariants.{Worker, Linux, Script};
 ghost use Rattle.std.specs.Option.{option_map};
-ghost use Rattle.std.specs.Prelude.{◌≡◌, ◌∷◌, ◌++◌, [], flat_map, map};
+ghost use Rattle.std.specs.Prelude.{◌≡◌, ◌∷◌, ◌++◌, [], flat_map, map, true};
 
 use hybrid_model::Event;
 use mck_word::Pid;
 use node_machine::{Offers, offer};
+use quiet_laws::the_made_processes_decide;
 use run_model::Actor;
 
 /// An actor and its event.
@@ -124,21 +126,60 @@ pub fn pass_processes_and_script<P: Offers>(
     pass_script(machine, skip)
 }
 
+// Passes over the offers of all processes, without a look where they are known to have none, and notes where none has one.
+fn pass_all_processes<P: Offers>(machine: &P, skip: &mut u32, quiet: &mut bool) -> Option<Choice>
+    requires quiet { quiet.old ≡ true → IsQuiet (P.pair machine.now) }
+    ensures goes { Goes (P.pair machine.now) (flat_map (actors_of_process (P.pair machine.now)) (keys (P.pair machine.now).node.processes)) skip.old result skip.new }
+    ensures quiet { quiet.new ≡ true → IsQuiet (P.pair machine.now) }
+{
+    if *quiet {
+        return None;
+    }
+    the_made_processes_decide();
+    let start = *skip;
+    if let Some(choice) = pass_processes(machine, machine.processes(), skip) {
+        return Some(choice);
+    }
+    *quiet = *skip == start;
+    None
+}
+
+// Passes over the offers of all processes and of the script.
+fn pass_behind_cores<P: Offers>(machine: &P, skip: &mut u32, quiet: &mut bool) -> Option<Choice>
+    requires quiet { quiet.old ≡ true → IsQuiet (P.pair machine.now) }
+    ensures goes { Goes (P.pair machine.now) (processes_and_script (P.pair machine.now) (keys (P.pair machine.now).node.processes)) skip.old result skip.new }
+    ensures quiet { quiet.new ≡ true → IsQuiet (P.pair machine.now) }
+{
+    if let Some(choice) = pass_all_processes(machine, skip, quiet) {
+        return Some(choice);
+    }
+    pass_script(machine, skip)
+}
+
 /// Passes over the offers of the cores from this one on and of all behind the cores.
-pub fn pass_from_core<P: Offers>(machine: &P, first: u32, skip: &mut u32) -> Option<Choice>
-    ensures { Goes (P.pair machine.now)
+pub fn pass_from_core<P: Offers>(
+    machine: &P,
+    first: u32,
+    skip: &mut u32,
+    quiet: &mut bool,
+) -> Option<Choice>
+    requires quiet { quiet.old ≡ true → IsQuiet (P.pair machine.now) }
+    ensures goes { Goes (P.pair machine.now)
         (cores_from (P.pair machine.now) first ++ processes_and_script (P.pair machine.now) (keys (P.pair machine.now).node.processes))
         skip.old result skip.new }
+    ensures quiet { quiet.new ≡ true → IsQuiet (P.pair machine.now) }
 {
     if let Some(choice) = pass_cores_from(machine, first, skip) {
         return Some(choice);
     }
-    pass_processes_and_script(machine, machine.processes(), skip)
+    pass_behind_cores(machine, skip, quiet)
 }
 
 /// Passes over the offers of all actors.
-pub fn pass_all<P: Offers>(machine: &P, skip: &mut u32) -> Option<Choice>
-    ensures { Goes (P.pair machine.now) (actors (P.pair machine.now)) skip.old result skip.new }
+pub fn pass_all<P: Offers>(machine: &P, skip: &mut u32, quiet: &mut bool) -> Option<Choice>
+    requires quiet { quiet.old ≡ true → IsQuiet (P.pair machine.now) }
+    ensures goes { Goes (P.pair machine.now) (actors (P.pair machine.now)) skip.old result skip.new }
+    ensures quiet { quiet.new ≡ true → IsQuiet (P.pair machine.now) }
 {
-    pass_from_core(machine, 0, skip)
+    pass_from_core(machine, 0, skip, quiet)
 }

@@ -2,10 +2,11 @@
 ghost use Rattle.hybrid_model.specs.declared.events.Event.{Event};
 ghost use Rattle.ihk_parts.specs.Passing.{as_chosen, offers_of};
 ghost use Rattle.ihk_parts.specs.Turns.{chosen, event_of, first_turn, turn_after};
+ghost use Rattle.quiet_laws.specs.Quiet.{IsQuiet};
 ghost use Rattle.rand_pcg.specs.Pcg.{pcg32};
 ghost use Rattle.run_model.specs.Walks.{actors, next_by_word, next_in_turn};
 ghost use Rattle.std.specs.Option.{option_map};
-ghost use Rattle.std.specs.Prelude.{◌≡◌, ◌<◌, ℕ, MatchOption, Some, length, slice_get};
+ghost use Rattle.std.specs.Prelude.{◌≡◌, ◌<◌, ℕ, MatchOption, Some, length, slice_get, true};
 ghost use Rattle.run_model.specs.Walks.{Chosen, moved, next_choice};
 ghost use Rattle.run_model.specs.Walks as walks;
 ghost use Rattle.ihk_parts.specs.Turns.{turn_at, words_of};
@@ -46,30 +47,36 @@ pub fn turns_move_on()
 {}
 
 // The first offer of all.
-fn first<P: Offers>(machine: &P) -> Option<Choice>
-    ensures { option_map as_chosen result ≡ slice_get (offers_of (P.pair machine.now) (actors (P.pair machine.now))) 0 }
+fn first<P: Offers>(machine: &P, quiet: &mut bool) -> Option<Choice>
+    requires quiet { quiet.old ≡ true → IsQuiet (P.pair machine.now) }
+    ensures first { option_map as_chosen result ≡ slice_get (offers_of (P.pair machine.now) (actors (P.pair machine.now))) 0 }
+    ensures quiet { quiet.new ≡ true → IsQuiet (P.pair machine.now) }
 {
     let mut skip = 0;
-    pass_all(machine, &mut skip)
+    pass_all(machine, &mut skip, quiet)
 }
 
 // The first offer behind the last that acted, else the first of all.
-fn next_in_turn<P: Offers>(machine: &P, last: Option<Actor>) -> Option<Choice>
-    ensures { option_map as_chosen result ≡ next_in_turn last (P.pair machine.now) }
+fn next_in_turn<P: Offers>(machine: &P, last: Option<Actor>, quiet: &mut bool) -> Option<Choice>
+    requires quiet { quiet.old ≡ true → IsQuiet (P.pair machine.now) }
+    ensures choice { option_map as_chosen result ≡ next_in_turn last (P.pair machine.now) }
+    ensures quiet { quiet.new ≡ true → IsQuiet (P.pair machine.now) }
 {
     match last {
-        None => first(machine),
-        Some(last) => next_behind(machine, last),
+        None => first(machine, quiet),
+        Some(last) => next_behind(machine, last, quiet),
     }
 }
 
-fn next_behind<P: Offers>(machine: &P, last: Actor) -> Option<Choice>
-    ensures { option_map as_chosen result ≡ next_in_turn (Some last) (P.pair machine.now) }
+fn next_behind<P: Offers>(machine: &P, last: Actor, quiet: &mut bool) -> Option<Choice>
+    requires quiet { quiet.old ≡ true → IsQuiet (P.pair machine.now) }
+    ensures choice { option_map as_chosen result ≡ next_in_turn (Some last) (P.pair machine.now) }
+    ensures quiet { quiet.new ≡ true → IsQuiet (P.pair machine.now) }
 {
     let mut skip = 0;
-    match pass_behind(machine, last, &mut skip) {
+    match pass_behind(machine, last, &mut skip, quiet) {
         Some(choice) => Some(choice),
-        None => first(machine),
+        None => first(machine, quiet),
     }
 }
 
@@ -82,39 +89,45 @@ fn count_actors<P: Offers>(machine: &P) -> u32
 }
 
 // How many of them have an offer.
-fn count_offers<P: Offers>(machine: &P) -> u32
-    ensures { result ≡ length (offers_of (P.pair machine.now) (actors (P.pair machine.now))) }
+fn count_offers<P: Offers>(machine: &P, quiet: &mut bool) -> u32
+    requires quiet { quiet.old ≡ true → IsQuiet (P.pair machine.now) }
+    ensures count { result ≡ length (offers_of (P.pair machine.now) (actors (P.pair machine.now))) }
+    ensures quiet { quiet.new ≡ true → IsQuiet (P.pair machine.now) }
 {
     let most = count_actors(machine);
     let mut skip = most;
-    match pass_all(machine, &mut skip) {
+    match pass_all(machine, &mut skip, quiet) {
         Some(_) => unreachable!(),
         None => most - skip,
     }
 }
 
 // The offer at a place among those of all.
-fn offer_at<P: Offers>(machine: &P, place: u32) -> Choice
-    requires { place < length (offers_of (P.pair machine.now) (actors (P.pair machine.now))) }
-    ensures { slice_get (offers_of (P.pair machine.now) (actors (P.pair machine.now))) place ≡ Some (as_chosen result) }
+fn offer_at<P: Offers>(machine: &P, place: u32, quiet: &mut bool) -> Choice
+    requires place { place < length (offers_of (P.pair machine.now) (actors (P.pair machine.now))) }
+    requires quiet { quiet.old ≡ true → IsQuiet (P.pair machine.now) }
+    ensures choice { slice_get (offers_of (P.pair machine.now) (actors (P.pair machine.now))) place ≡ Some (as_chosen result) }
+    ensures quiet { quiet.new ≡ true → IsQuiet (P.pair machine.now) }
 {
     let mut skip = place;
-    match pass_all(machine, &mut skip) {
+    match pass_all(machine, &mut skip, quiet) {
         Some(choice) => choice,
         None => unreachable!(),
     }
 }
 
-fn next_drawn<P: Offers>(machine: &P, generator: &mut Pcg32) -> Option<Choice>
+fn next_drawn<P: Offers>(machine: &P, generator: &mut Pcg32, quiet: &mut bool) -> Option<Choice>
+    requires quiet { quiet.old ≡ true → IsQuiet (P.pair machine.now) }
     ensures choice { option_map as_chosen result ≡ next_by_word (pcg32 generator.old).0 (P.pair machine.now) }
     ensures generator { MatchOption result (generator.new ≡ generator.old) (λ _. generator.new ≡ (pcg32 generator.old).1) }
+    ensures quiet { quiet.new ≡ true → IsQuiet (P.pair machine.now) }
 {
-    let count = count_offers(machine);
+    let count = count_offers(machine, quiet);
     if count == 0 {
         return None;
     }
     let word = generator.next_word();
-    Some(offer_at(machine, word % count))
+    Some(offer_at(machine, word % count, quiet))
 }
 
 impl Walker {
@@ -131,18 +144,21 @@ impl Walker {
     }
 
     /// The event of the actor that acts next; none exactly where no actor has an offer, and then the walker stays as it is.
-    pub fn next<P: Offers>(&mut self, machine: &P) -> Option<Event>
+    /// `quiet` says that no process's actors have an offer: from the cores on they aren't asked then. It is noted where none has.
+    pub fn next<P: Offers>(&mut self, machine: &P, quiet: &mut bool) -> Option<Event>
+        requires quiet { quiet.old ≡ true → IsQuiet (P.pair machine.now) }
         ensures event { result ≡ option_map event_of (chosen self.old (P.pair machine.now)) }
         ensures turn { MatchOption (chosen self.old (P.pair machine.now)) (self.new ≡ self.old) (λ c. self.new ≡ turn_after self.old c) }
+        ensures quiet { quiet.new ≡ true → IsQuiet (P.pair machine.now) }
     {
         match &mut self.turn {
             Turn::Round(last) => {
-                let choice = next_in_turn(machine, *last)?;
+                let choice = next_in_turn(machine, *last, quiet)?;
                 *last = Some(choice.actor);
                 Some(choice.event)
             }
             Turn::Drawn(generator) => {
-                let choice = next_drawn(machine, generator)?;
+                let choice = next_drawn(machine, generator, quiet)?;
                 Some(choice.event)
             }
         }

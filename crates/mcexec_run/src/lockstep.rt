@@ -133,6 +133,10 @@ impl<M: Machine, O: SingleKernel> Machine for Lockstep<M, O> {
         self.machine.may(event)
     }
 
+    fn is_ready(&self, t: Tid) -> bool {
+        self.machine.is_ready(t)
+    }
+
     fn step_of(&self, event: &Event) -> Option<Step> {
         self.machine.step_of(event)
     }

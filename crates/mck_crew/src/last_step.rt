@@ -23,7 +23,8 @@ pub fn finish<M: Machine, B: Begun, R: Wait>(rt: &R, node: &mut Node<M, B>) -> C
     let mut walker = Walker::new(0);
     for _ in rt.forever() {
         let machine = node.machine();
-        let Some(event) = walker.next(machine) else {
+        let mut quiet = false;
+        let Some(event) = walker.next(machine, &mut quiet) else {
             let _ending = machine.ending();
             return CrewEnd::Over;
         };

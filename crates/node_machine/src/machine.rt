@@ -8,6 +8,7 @@ ghost use Rattle.hybrid_model.specs.Shown.{one};
 ghost use Rattle.hybrid_model.specs.declared.events.Ending.TheVariants.{Unfinished};
 ghost use Rattle.hybrid_model.specs.declared.events.Event.{Event};
 ghost use Rattle.job_model.specs.Prepared.{IsPrepared};
+ghost use Rattle.kernel_model.specs.Nodes.{ready_to_run, thread_of};
 ghost use Rattle.node_machine.specs.Booting.{BootFails};
 ghost use Rattle.node_machine.specs.Reached.{IsReached};
 ghost use Rattle.node_machine.specs.Stepping.{executed, steps_of};
@@ -22,7 +23,7 @@ use crate::offers::Offers;
 use hybrid_model::{Ending, Event};
 use job_model::{Image, Job};
 use kernel_model::Step;
-use mck_word::NoMemory;
+use mck_word::{NoMemory, Tid};
 use run_summary::Summary;
 use std::alloc::Global;
 
@@ -46,6 +47,10 @@ pub trait Machine: Offers + Drop {
     /// Whether the event may happen.
     fn may(&self, event: &Event) -> bool
         ensures { result ≡ may (Self.pair self.now) event.now };
+
+    /// Whether the thread is ready to run.
+    fn is_ready(&self, t: Tid) -> bool
+        ensures { result ≡ ready_to_run (thread_of (Self.pair self.now).node t.0).does };
 
     /// The step of the one-kernel machine that the event stands for, if there is one; of a Run the step of each of its instructions.
     fn step_of(&self, event: &Event) -> Option<Step>

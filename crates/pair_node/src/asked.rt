@@ -1,7 +1,7 @@
 // What a run asks of the parts.
 ghost use Rattle.hybrid_model.specs.Journals.{ending_of_run, runs_on};
 ghost use Rattle.hybrid_model.specs.Workers.{has_pin, holds};
-ghost use Rattle.kernel_model.specs.Nodes.{Process as KernelProcess, ScriptLine as KernelLine, has_ended, is_living, ready_to_run};
+ghost use Rattle.kernel_model.specs.Nodes.{Process as KernelProcess, ScriptLine as KernelLine, has_ended, is_living, ready_to_run, thread_of};
 ghost use Rattle.mck_word.specs.Maps.{at, each_row, some_row};
 ghost use Rattle.pair_core.specs.Shown.{pair_of};
 ghost use Rattle.pair_offers.specs.Seeking.{thread_number};
@@ -84,6 +84,14 @@ fn runs_on<T: PageTable + Drop, F: FileStore>(parts: &Parts<T, F>, thread: &Thre
     ensures { result ≡ (ready_to_run thread.now.state && is_living (pair_of T.rows F.files parts.now).node thread.now.pid.0) }
 {
     matches!(thread.state, Does::Ready) && parts.lwk.node.is_living(thread.pid)
+}
+
+/// Whether the thread is ready to run.
+#[tactic(auto, unfolding(pair_core::specs::Shown::pair_of))]
+pub fn is_ready<T: PageTable + Drop, F: FileStore>(parts: &Parts<T, F>, t: Tid) -> bool
+    ensures { result ≡ ready_to_run (thread_of (pair_of T.rows F.files parts.now).node t.0).does }
+{
+    matches!(parts.lwk.node.does(t), Does::Ready)
 }
 
 fn some_of<T: PageTable + Drop, F: FileStore>(

@@ -3,13 +3,13 @@ ghost use Rattle.pair_node.specs.Room.{HasListPlace, HasPlace, HasRoom};
 ghost use Rattle.std.specs.Prelude.{◌-◌, vec_len};
 ghost use Rattle.std.specs.Vec.{vec_capacity};
 
-use crate::asked::ending_of_run;
+use crate::asked::{ending_of_run, is_ready};
 use crate::pair::Pair;
 use hybrid_model::{Ending, Event};
 use job_files::JobFiles;
 use job_model::{Image, Job};
 use kernel_model::Step;
-use mck_word::NoMemory;
+use mck_word::{NoMemory, Tid};
 use node_machine::{BootError, Machine};
 use offer_laws::offers_may;
 use page_map::PageTable;
@@ -30,6 +30,10 @@ impl<T: PageTable + Drop, F: JobFiles> Machine for Pair<T, F> {
 
     fn may(&self, event: &Event) -> bool {
         Pair::may(self, event)
+    }
+
+    fn is_ready(&self, t: Tid) -> bool {
+        is_ready(&self.parts, t)
     }
 
     fn step_of(&self, event: &Event) -> Option<Step> {

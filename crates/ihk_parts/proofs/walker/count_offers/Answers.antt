@@ -7,4 +7,4 @@ use Rattle.std.proofs.Common.{arith}
 pub unreachable-requires : goal.unreachable-requires
 unreachable-requires g c =
     let pair = g.P.Offers.pair c.args.machine.now in
-    omega (arith, get-below (offers_of pair (actors pair)) c.count_actors-most.result (as_chosen c.in-Some.field-0) c.in-Some.ensures, length-offers pair (actors pair), c.count_actors-most.ensures)
+    omega (arith, get-below (offers_of pair (actors pair)) c.count_actors-most.result (as_chosen c.in-Some.field-0) c.in-Some.ensures.goes, length-offers pair (actors pair), c.count_actors-most.ensures)

@@ -6,7 +6,7 @@ use Rattle.run_model.specs.declared.actors.Actor.{Actor}
 use Rattle.std.proofs.Common.{Option, subst, sym, ◌∙◌, ◌≡◌}
 use Rattle.std.specs.Option.{option_map}
 
-pub returns-in-None : goal.returns-in-None
-returns-in-None g c =
+pub returns-in-None-clause-choice : goal.returns-in-None-clause-choice
+returns-in-None-clause-choice g c =
     let pair = g.P.Offers.pair c.args.machine.now in
-    subst (λ (last : Option Actor). option_map as_chosen c.first.result ≡ next_in_turn last pair) (sym c.in-None.is) (c.first.ensures ∙ sym (first-get pair (actors pair)))
+    subst (λ (last : Option Actor). option_map as_chosen c.first.result ≡ next_in_turn last pair) (sym c.in-None.is) (c.first.ensures.first ∙ sym (first-get pair (actors pair)))

@@ -51,6 +51,7 @@ steps-preserved g c =
           c.in_ok-push.ensures.ok (turned (chosen c.steps.walker pair) t.choice c.steps.walker c.next.new.self t.chosen c.next.ensures.turn) next;
       legal = legal_on start pair c.steps.journal c.push.new.self c.in-Some.event c.steps.invariant.legal c.steps.invariant.state may_it c.in_ok-push.ensures.ok;
       state = state_on start pair (g.M.Offers.pair c.apply-executed.new.self) c.steps.journal c.push.new.self c.in-Some.event c.steps.invariant.state next c.in_ok-push.ensures.ok;
+      quiet = c.stays_quiet-quiet.ensures pair may_it next c.in-Some.ensures.quiet;
     }
 
 pub steps-smaller : goal.steps-smaller

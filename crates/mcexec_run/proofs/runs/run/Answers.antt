@@ -1,5 +1,4 @@
-use Rattle.hybrid_model.specs.declared.events.Event.{Event}
-use Rattle.mcexec_run.proofs.Outcomes.{refused, with_job}
+use Rattle.mcexec_run.proofs.Outcomes.{with_job}
 use Rattle.mcexec_run.proofs.RunOutcomes.{completes_run, refused_run}
 use Rattle.mcexec_run.proofs.Steps.{fails_on}
 use Rattle.mcexec_run.proofs.runs.run.Goals as goal
@@ -7,7 +6,6 @@ use Rattle.mcexec_run.specs.Chain.{gathered, prepared, with_frames}
 use Rattle.mcexec_run.specs.Given.{gathered_given, prepared_given}
 use Rattle.mcexec_run.specs.Outcome.{NoLine, text_at}
 use Rattle.mcexec_run.specs.Running.{LeavesRun, ShowsRun}
-use Rattle.std.proofs.Common.{List, refl}
 
 pub returns-in-Ok-clause-outcome : goal.returns-in-Ok-clause-outcome
 returns-in-Ok-clause-outcome g c held told =
