@@ -1,7 +1,8 @@
 -- The outcome of a walk.
 use Rattle.hybrid_model.specs.Boot.{shortage}
 use Rattle.hybrid_model.specs.Claims.{Headline}
-use Rattle.hybrid_model.specs.Journals.{IsLegal, ending, may_all, state}
+use Rattle.hybrid_model.specs.Globals.{Coherent}
+use Rattle.hybrid_model.specs.Journals.{IsLegal, IsOver, ending, ending_of_run, is_at_end, may_all, state}
 use Rattle.hybrid_model.specs.Pairs.{Pair}
 use Rattle.hybrid_model.specs.declared.events.Ending.TheVariants.{Unfinished}
 use Rattle.hybrid_model.specs.declared.events.Event.{Event}
@@ -17,11 +18,28 @@ use Rattle.mck_report.specs.Checks.{check_parts}
 use Rattle.mck_word.specs.declared.no_memory.NoMemory.{NoMemory as Want}
 use Rattle.run_model.specs.Texts.{text_of}
 use Rattle.run_model.specs.Walks.{walk_for}
-use Rattle.std.proofs.Common.{Err, IfOk, List, None, Ok, Option, Result, ap, inl, inr, length, refl, subst, sym, true, ℕ, [], ◌+◌, ◌∙◌, ◌≡◌, ◌≢◌}
+use Rattle.std.proofs.Common.{Bool, Err, IfOk, List, None, Ok, Option, Result, ap, cond, false, inl, inr, length, refl, subst, sym, true, ℕ, [], ◌+◌, ◌∙◌, ◌≡◌, ◌≢◌}
 
--- the whole claim of each legal journal of a job
+-- where the run is over, no event may happen
+abbrev pub StillAtEnd : Pair → Type 0
+StillAtEnd pair = ending pair ≢ Unfinished → IsOver pair
+
+-- the whole claim of each legal journal of a job, and that nothing may happen where its run is over
 abbrev pub Claimed : Prepared → Type 0
-Claimed p = (journal : List Event) → IsLegal p.job p.images journal → Headline p.job p.images journal
+Claimed p = (journal : List Event) → IsLegal p.job p.images journal → Headline p.job p.images journal × StillAtEnd (last_state p journal)
+
+at-end : (pair : Pair) → ending pair ≢ Unfinished → is_at_end pair ≡ true
+at-end pair o = go (is_at_end pair) o
+  where
+    go : (b : Bool) → cond b (ending_of_run pair) Unfinished ≢ Unfinished → b ≡ true
+    go true n = refl
+    go false n = absurd (n refl)
+
+pub claimed : (p : Prepared) → ((journal : List Event) → IsLegal p.job p.images journal → Headline p.job p.images journal)
+    → ((pair : Pair) → Coherent pair → is_at_end pair ≡ true → IsOver pair) → Claimed p
+claimed p every stands journal legal =
+    let headline = every journal legal in
+    (headline, λ o. stands (last_state p journal) headline.coherent (at-end (last_state p journal) o))
 
 -- a refusal before the run
 pub refused : {W : Type 0} (ready : Result W Status) (SoFar : W → List Event → Type 0) (Bad : W → ℕ → Type 0) (Shows : W → Status → List Event → List ℕ → Type 0) (status : Status) (journal : List Event) (old new : Option (List ℕ)) →
@@ -39,10 +57,10 @@ put_walk : (ready : Result Prepared Status) (p : Prepared) (order : ℕ) (write 
     → IsLegal p.job p.images journal → ending (last_state p journal) ≢ Unfinished
     → Puts (status_of (ending (last_state p journal))) (write (last_state p journal) journal) status old new → WalkOutcome ready order write status journal old new
 put_walk ready p order write journal status old new r every f w l o (AllPut e t) =
-    Shown p (write (last_state p journal) journal) r (record { walked = (length journal, f, w); legal = l; headline = every journal l; over = o; ends = e; written = refl }) t
+    Shown p (write (last_state p journal) journal) r (record { walked = (length journal, f, w); legal = l; headline = (every journal l).0; over = o; still = (every journal l).1 o; ends = e; written = refl }) t
 put_walk ready p order write journal status old new r every f w l o (FrontPut e t) =
-    SinkFailed p (write (last_state p journal) journal) (status_of (ending (last_state p journal))) e r (record { walked = (length journal, f, w); legal = l; headline = every journal l; over = o; ends = refl; written = refl }) t
-put_walk ready p order write journal status old new r every f w l o (NonePut e n) = RanShort p e r (record { front = f; legal = l; headline = every journal l }) n
+    SinkFailed p (write (last_state p journal) journal) (status_of (ending (last_state p journal))) e r (record { walked = (length journal, f, w); legal = l; headline = (every journal l).0; over = o; still = (every journal l).1 o; ends = refl; written = refl }) t
+put_walk ready p order write journal status old new r every f w l o (NonePut e n) = RanShort p e r (record { front = f; legal = l; headline = (every journal l).0 }) n
 
 -- from the machine's state at the start and at the end
 pub walk_outcome : (ready : Result Prepared Status) (p : Prepared) (first end : Pair) (order : ℕ) (write : Pair → List Event → List ℕ) (journal journal' : List Event) (status : Status) (old new : Option (List ℕ)) → ready ≡ Ok p → Claimed p → first ≡ booted p
@@ -63,7 +81,7 @@ leaves : (p : Prepared) (first : Pair) (order : ℕ) (journal : List Event) → 
     → shortage p.job p.images ≡ None → may_all first journal ≡ true → LeavesWalk order p journal
 leaves p first order journal every s f h l =
     let legal : IsLegal p.job p.images journal = (h, subst (λ (x : Pair). may_all x journal ≡ true) s l) in
-    record { front = subst (λ (x : Pair). walk_for (words_of order) (length journal) (walker_at x) ≡ journal) s f; legal = legal; headline = every journal legal }
+    record { front = subst (λ (x : Pair). walk_for (words_of order) (length journal) (walker_at x) ≡ journal) s f; legal = legal; headline = (every journal legal).0 }
 
 pub ran_short : (ready : Result Prepared Status) (p : Prepared) (first : Pair) (order : ℕ) (write : Pair → List Event → List ℕ) (journal : List Event) (old new : Option (List ℕ)) → ready ≡ Ok p → Claimed p → first ≡ booted p
     → walk_for (words_of order) (length journal) (walker_at first) ≡ journal → shortage p.job p.images ≡ None → may_all first journal ≡ true → new ≡ old → WalkOutcome ready order write NoMemory journal old new

@@ -21,11 +21,11 @@ use Rattle.std.proofs.Common.{Err, List, None, Ok, Option, Result, Some, ap, inl
 put_replay : (t : Traced) (journal : List Event) (status : Status) (old new : Option (List ℕ)) → Claimed t.start → IsTraceOf t.trace journal → IsLegal t.start.job t.start.images journal
     → Puts (status_of (ending (last_state t.start journal))) (text_at Report (last_state t.start journal) journal) status old new → ReplayOutcome (Ok t) status journal old new
 put_replay t journal status old new every s l (AllPut e took) =
-    Shown t (text_at Report (last_state t.start journal) journal) refl (record { spelled = s; legal = l; headline = every journal l; ends = e; written = refl }) took
+    Shown t (text_at Report (last_state t.start journal) journal) refl (record { spelled = s; legal = l; headline = (every journal l).0; still = (every journal l).1; ends = e; written = refl }) took
 put_replay t journal status old new every s l (FrontPut e took) =
     SinkFailed t (text_at Report (last_state t.start journal) journal) (status_of (ending (last_state t.start journal))) e refl
-    (record { spelled = s; legal = l; headline = every journal l; ends = refl; written = refl }) took
-put_replay t journal status old new every s l (NonePut e n) = RanShort t e refl (record { front = front_of t.trace journal s; legal = l; headline = every journal l }) n
+    (record { spelled = s; legal = l; headline = (every journal l).0; still = (every journal l).1; ends = refl; written = refl }) took
+put_replay t journal status old new every s l (NonePut e n) = RanShort t e refl (record { front = front_of t.trace journal s; legal = l; headline = (every journal l).0 }) n
 
 pub is_legal : (p : Prepared) (first : Pair) (journal : List Event) → first ≡ booted p → shortage p.job p.images ≡ None → may_all first journal ≡ true → IsLegal p.job p.images journal
 is_legal p first journal s h l = (h, subst (λ (x : Pair). may_all x journal ≡ true) s l)
@@ -45,7 +45,7 @@ replay_outcome t first end journal journal' status old new every s h trace l e j
 pub replay_short : (t : Traced) (first : Pair) (journal : List Event) (old : Option (List ℕ)) → Claimed t.start → first ≡ booted t.start → shortage t.start.job t.start.images ≡ None
     → IsFront t.trace journal → may_all first journal ≡ true → ReplayOutcome (Ok t) NoMemory journal old old
 replay_short t first journal old every s h front l =
-    let legal = is_legal t.start first journal s h l in RanShort t refl refl (record { front = front; legal = legal; headline = every journal legal }) refl
+    let legal = is_legal t.start first journal s h l in RanShort t refl refl (record { front = front; legal = legal; headline = (every journal legal).0 }) refl
 
 pub replay_bad : (t : Traced) (first : Pair) (line : ℕ) (journal : List Event) (old : Option (List ℕ)) → first ≡ booted t.start → FirstRefused first t.trace line → journal ≡ [] → ReplayOutcome (Ok t) (BadTrace line) journal old old
 replay_bad t first line journal old s f j = BadLine t line refl refl (subst (λ (x : Pair). FirstRefused x t.trace line) s f) j refl

@@ -19,10 +19,10 @@ put_run : (ready : Result Prepared Status) (p : Prepared) (write : Pair → List
     → IsLegal p.job p.images journal → ending (last_state p journal) ≢ Unfinished
     → Puts (status_of (ending (last_state p journal))) (write (last_state p journal) journal) status old new → RunOutcome ready write status journal old new
 put_run ready p write journal status old new r every l o (AllPut e t) =
-    Shown p (write (last_state p journal) journal) r (record { legal = l; headline = every journal l; over = o; ends = e; written = refl }) t
+    Shown p (write (last_state p journal) journal) r (record { legal = l; headline = (every journal l).0; over = o; still = (every journal l).1 o; ends = e; written = refl }) t
 put_run ready p write journal status old new r every l o (FrontPut e t) =
-    SinkFailed p (write (last_state p journal) journal) (status_of (ending (last_state p journal))) e r (record { legal = l; headline = every journal l; over = o; ends = refl; written = refl }) t
-put_run ready p write journal status old new r every l o (NonePut e n) = RanShort p e r (record { legal = l; headline = every journal l }) n
+    SinkFailed p (write (last_state p journal) journal) (status_of (ending (last_state p journal))) e r (record { legal = l; headline = (every journal l).0; over = o; still = (every journal l).1 o; ends = refl; written = refl }) t
+put_run ready p write journal status old new r every l o (NonePut e n) = RanShort p e r (record { legal = l; headline = (every journal l).0 }) n
 
 -- from the machine's state at the start and at the end
 pub run_outcome : (ready : Result Prepared Status) (p : Prepared) (first end : Pair) (write : Pair → List Event → List ℕ) (journal journal' : List Event) (status : Status) (old new : Option (List ℕ)) → ready ≡ Ok p → Claimed p → first ≡ booted p
@@ -38,7 +38,7 @@ run_outcome ready p first end write journal journal' status old new r every s h 
 pub run_short : (ready : Result Prepared Status) (p : Prepared) (first : Pair) (write : Pair → List Event → List ℕ) (journal : List Event) (old new : Option (List ℕ)) → ready ≡ Ok p → Claimed p → first ≡ booted p
     → shortage p.job p.images ≡ None → may_all first journal ≡ true → new ≡ old → RunOutcome ready write NoMemory journal old new
 run_short ready p first write journal old new r every s h l n =
-    let legal : IsLegal p.job p.images journal = is_legal p first journal s h l in RanShort p refl r (record { legal = legal; headline = every journal legal }) n
+    let legal : IsLegal p.job p.images journal = is_legal p first journal s h l in RanShort p refl r (record { legal = legal; headline = (every journal legal).0 }) n
 
 -- a refusal before the run
 pub refused_run : (ready : Result Prepared Status) (write : Pair → List Event → List ℕ) (status status' : Status) (journal : List Event) (old : Option (List ℕ)) → IsRefusal status → Fails status ready → status' ≡ status → journal ≡ []

@@ -1,7 +1,7 @@
 -- What a call of the program answers, what it keeps and what it writes: the table of statuses, row by row.
 use Rattle.hybrid_model.specs.Boot.{boot}
 use Rattle.hybrid_model.specs.Claims.{Headline}
-use Rattle.hybrid_model.specs.Journals.{IsLegal, ending, state}
+use Rattle.hybrid_model.specs.Journals.{IsLegal, IsOver, ending, state}
 use Rattle.hybrid_model.specs.Pairs.{Pair}
 use Rattle.hybrid_model.specs.Shown.{one}
 use Rattle.hybrid_model.specs.declared.events.Ending.TheVariants.{Unfinished}
@@ -71,13 +71,14 @@ PutsText (Err none) meant status old new = (status ≡ NoMemory) × (new ≡ old
 
 -- ---- a walk
 
--- It comes to the journal that the order names, to the status of its ending and to its text, which `write` makes of the last state and
--- the journal. Of the journal the whole claim holds.
+-- It comes to the journal that the order names, after which no event may happen, to the status of its ending and to its text, which
+-- `write` makes of the last state and the journal. Of the journal the whole claim holds.
 pub record ShowsWalk (order : ℕ) (write : Pair → List Event → List ℕ) (p : Prepared) (status : Status) (journal : List Event) (text : List ℕ) : Type 0 where
   pub walked : IsWalked p.job p.images (words_of order) journal
   pub legal : IsLegal p.job p.images journal
   pub headline : Headline p.job p.images journal
   pub over : ending (last_state p journal) ≢ Unfinished
+  pub still : IsOver (last_state p journal)
   pub ends : status ≡ status_of (ending (last_state p journal))
   pub written : text ≡ write (last_state p journal) journal
 

@@ -1,8 +1,9 @@
 -- Traces that are run again: what a trace spells, the first line of it that is refused, and what a replay comes to.
 use Rattle.hybrid_model.specs.Claims.{Headline}
 use Rattle.hybrid_model.specs.Events.{may}
-use Rattle.hybrid_model.specs.Journals.{IsLegal, ending, may_all, state}
+use Rattle.hybrid_model.specs.Journals.{IsLegal, IsOver, ending, may_all, state}
 use Rattle.hybrid_model.specs.Pairs.{Pair}
+use Rattle.hybrid_model.specs.declared.events.Ending.TheVariants as endings
 use Rattle.hybrid_model.specs.declared.events.Event.{Event}
 use Rattle.mcexec_run.specs.Chain.{◌>>=◌, fetched, gathered, has_to_fetch, with_frames}
 use Rattle.mcexec_run.specs.Outcome.{Outcome, booted, last_state, text_at}
@@ -81,11 +82,13 @@ has_to_fetch_both held job trace = has_to_fetch held job ++ trace ∷ []
 
 -- ---- what a replay comes to
 
--- the journal that the trace spells, legal, the status of its ending, and its report; of the journal the whole claim holds
+-- The journal that the trace spells, legal, the status of its ending, and its report. Of the journal the whole claim holds, and where it
+-- isn't unfinished, no event may happen after it.
 pub record ShowsReplay (t : Traced) (status : Status) (journal : List Event) (text : List ℕ) : Type 0 where
   pub spelled : IsTraceOf t.trace journal
   pub legal : IsLegal t.start.job t.start.images journal
   pub headline : Headline t.start.job t.start.images journal
+  pub still : ending (last_state t.start journal) ≢ endings.Unfinished → IsOver (last_state t.start journal)
   pub ends : status ≡ status_of (ending (last_state t.start journal))
   pub written : text ≡ text_at Report (last_state t.start journal) journal
 

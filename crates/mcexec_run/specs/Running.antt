@@ -1,6 +1,6 @@
 -- What a run on threads comes to. Which of the legal journals it keeps, the threads decide.
 use Rattle.hybrid_model.specs.Claims.{Headline}
-use Rattle.hybrid_model.specs.Journals.{IsLegal, ending}
+use Rattle.hybrid_model.specs.Journals.{IsLegal, IsOver, ending}
 use Rattle.hybrid_model.specs.Pairs.{Pair}
 use Rattle.hybrid_model.specs.declared.events.Ending.TheVariants.{Unfinished}
 use Rattle.hybrid_model.specs.declared.events.Event.{Event}
@@ -17,6 +17,7 @@ pub record ShowsRun (write : Pair → List Event → List ℕ) (p : Prepared) (s
   pub legal : IsLegal p.job p.images journal
   pub headline : Headline p.job p.images journal
   pub over : ending (last_state p journal) ≢ Unfinished
+  pub still : IsOver (last_state p journal)
   pub ends : status ≡ status_of (ending (last_state p journal))
   pub written : text ≡ write (last_state p journal) journal
 

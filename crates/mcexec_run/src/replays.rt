@@ -20,6 +20,7 @@ use hybrid_model::Event;
 use mck_report::Status;
 use mck_word::Items;
 use node_machine::Machine;
+use offer_laws::the_candidates_stand_for_all;
 use outside::{Host, Sink};
 use std::alloc::Global;
 
@@ -87,6 +88,7 @@ fn run_trace<M: Machine, S: Sink>(
     ensures no_fault { result.status ≢ HostFault }
 {
     every_legal_journal();
+    the_candidates_stand_for_all();
     match replay_trace(&mut machine, trace, journal) {
         Ok(()) => {
             let report = Text::Of(Form::Report);

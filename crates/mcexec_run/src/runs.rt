@@ -16,6 +16,7 @@ use hybrid_laws::whole::every_legal_journal;
 use mck_crew::{CrewEnd, Gate, Ran, run_machine};
 use mck_report::Status;
 use node_machine::Machine;
+use offer_laws::the_candidates_stand_for_all;
 use outside::{Host, Sink};
 use std::alloc::Global;
 use std::sync::Wait;
@@ -42,6 +43,7 @@ pub fn run_prepared<M: Machine + Send + Sync, G: Gate + Sync, R: Threads + Wait 
         Err(status) => return nothing_kept(alloc, status),
     };
     every_legal_journal();
+    the_candidates_stand_for_all();
     let Ran {
         machine,
         journal,

@@ -20,6 +20,7 @@ use ihk_parts::walk_journal;
 use mck_report::Status;
 use mck_word::{Items, NoMemory};
 use node_machine::Machine;
+use offer_laws::the_candidates_stand_for_all;
 use outside::{Host, Sink};
 use std::alloc::Global;
 use work_laws::every_event_leaves_less;
@@ -45,6 +46,7 @@ fn walk_into<M: Machine, S: Sink>(
         Err(status) => return status,
     };
     every_legal_journal();
+    the_candidates_stand_for_all();
     every_event_leaves_less();
     match walk_journal(&mut machine, order, journal) {
         Ok(()) => show(alloc, &machine, journal.as_slice(), text, sink),

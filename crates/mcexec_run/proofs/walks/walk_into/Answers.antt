@@ -1,4 +1,4 @@
-use Rattle.mcexec_run.proofs.Outcomes.{ran_short, refused, walk_outcome}
+use Rattle.mcexec_run.proofs.Outcomes.{claimed, ran_short, refused, walk_outcome}
 use Rattle.mcexec_run.proofs.walks.walk_into.Goals as goal
 use Rattle.mcexec_run.specs.Chain.{with_frames}
 use Rattle.mcexec_run.specs.Outcome.{LeavesWalk, NoLine, ShowsWalk}
@@ -13,12 +13,12 @@ returns-in-Err-clause-outcome g c =
 pub returns-clause-outcome : goal.returns-clause-outcome
 returns-clause-outcome g c =
     ran_short (with_frames c.args.p.now) c.args.p.now (g.M.Offers.pair c.in-Ok.machine) c.args.order (text_of_kind c.args.text) c.walk_journal.new.journal (g.S.Sink.taken c.args.sink.now) (g.S.Sink.taken c.args.sink.now)
-    c.in-Ok.ensures.value (λ journal legal. c.every_legal_journal.ensures c.args.p.now.job c.args.p.now.images journal c.requires.prepared legal) c.in-Ok.ensures.state c.walk_journal.ensures.front c.in-Ok.ensures.frames c.walk_journal.ensures.legal refl
+    c.in-Ok.ensures.value (claimed c.args.p.now (λ journal legal. c.every_legal_journal.ensures c.args.p.now.job c.args.p.now.images journal c.requires.prepared legal) c.the_candidates_stand_for_all.ensures.over) c.in-Ok.ensures.state c.walk_journal.ensures.front c.in-Ok.ensures.frames c.walk_journal.ensures.legal refl
 
 pub returns-in-Ok-walk_journal-clause-outcome : goal.returns-in-Ok-walk_journal-clause-outcome
 returns-in-Ok-walk_journal-clause-outcome g c =
     walk_outcome (with_frames c.args.p.now) c.args.p.now (g.M.Offers.pair c.in-Ok.machine) (g.M.Offers.pair c.walk_journal.new.machine) c.args.order (text_of_kind c.args.text) c.walk_journal.new.journal c.as_slice.result.now c.show.result
-    (g.S.Sink.taken c.args.sink.now) (g.S.Sink.taken c.show.new.sink) c.in-Ok.ensures.value (λ journal legal. c.every_legal_journal.ensures c.args.p.now.job c.args.p.now.images journal c.requires.prepared legal) c.in-Ok.ensures.state c.walk_journal.ensures.front c.in-Ok-walk_journal.ensures.whole c.in-Ok.ensures.frames
+    (g.S.Sink.taken c.args.sink.now) (g.S.Sink.taken c.show.new.sink) c.in-Ok.ensures.value (claimed c.args.p.now (λ journal legal. c.every_legal_journal.ensures c.args.p.now.job c.args.p.now.images journal c.requires.prepared legal) c.the_candidates_stand_for_all.ensures.over) c.in-Ok.ensures.state c.walk_journal.ensures.front c.in-Ok-walk_journal.ensures.whole c.in-Ok.ensures.frames
     c.walk_journal.ensures.legal c.walk_journal.ensures.state c.in-Ok-walk_journal.ensures.over c.as_slice.ensures c.show.ensures.puts
 
 pub walk_journal-requires-clause-ends : goal.walk_journal-requires-clause-ends
