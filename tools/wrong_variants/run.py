@@ -3,6 +3,7 @@
 
     run.py              all variants
     run.py NAME..       these (the names of the files beside this script, without .txt)
+    run.py --some N     N of them, others for each day: the gate's script tries a few in turn
     run.py --unchanged  the files of those laws under the definitions as they are: all have to be proved
 
 Each variant is checked in one crate, made for it: the definitions that it changes and those above them, the law's file, and the files that this uses. The crates below are
@@ -15,6 +16,7 @@ import subprocess
 import sys
 import tempfile
 from dataclasses import dataclass
+from datetime import date
 from pathlib import Path
 
 HERE = Path(__file__).resolve().parent
@@ -204,9 +206,17 @@ def try_unchanged(top, found):
     return proved
 
 
+def some_of(names, count):
+    """So many of the names, from the place on that today names."""
+    first = date.today().toordinal() * count
+    return [names[(first + k) % len(names)] for k in range(min(count, len(names)))]
+
+
 def main(arguments):
     sys.stdout.reconfigure(line_buffering=True)
     found = variants()
+    if len(arguments) == 2 and arguments[0] == "--some" and arguments[1].isdigit():
+        arguments = some_of(list(found), int(arguments[1]))
     unknown = [name for name in arguments if name not in found and name != "--unchanged"]
     if unknown:
         print(f"no such variant: {' '.join(unknown)}")
