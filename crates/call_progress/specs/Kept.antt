@@ -8,7 +8,7 @@ use Rattle.kernel_model.specs.CallPhases.{Phase, most_moved}
 use Rattle.kernel_model.specs.Progress.{After, Moved, Progress}
 use Rattle.std.specs.Prelude.{◌≡◌, ◌≤◌, ◌+◌, ◌≤ℤ◌, pos, ℕ, ℤ, List, Option, length, min}
 
--- the progress, how many bytes its buffer can take without memory, and the bytes that an act can give out into
+-- the progress, for how many bytes its buffer has room, and the bytes that an act can give out into
 pub record Kept : Type 0 where
   pub progress : Progress
   pub spare : ℕ

@@ -36,7 +36,7 @@ pub record HasMoved (r : FileResult) (count : ℕ) (before after : List ℕ) (le
   pub fills : after ≡ placed r.out before
   pub leaves : left ≡ r.files
 
--- what the file step of a phase needs, so that it takes no memory
+-- the room that the file step of a phase needs
 abbrev pub HasStepRoom : Room → (Target → ℕ → Type 0) → Files → Kept → Phase → Type 0
 HasStepRoom room can_write files k (Gather rs) = Unit {0}
 HasStepRoom room can_write files k Act = let op = act_of k.progress.call k.progress.arguments in HasRoom room can_write files op × HasOut op k.out
@@ -47,7 +47,7 @@ HasStepRoom room can_write files k (Stream rs) = HasRoom room can_write files (s
 abbrev pub HasRoomForStep : Room → (Target → ℕ → Type 0) → Files → Kept → Type 0
 HasRoomForStep room can_write files k = HasStepRoom room can_write files k (get_or k.progress.phases 0 Act)
 
--- what the piece of a phase needs, so that it takes no memory
+-- the room that the piece of a phase needs
 abbrev pub HasPieceRoom : Room → (Target → ℕ → Type 0) → Files → Kept → Phase → Type 0
 HasPieceRoom room can_write files k (Gather rs) = (next_piece k.progress).len ≤ k.spare
 HasPieceRoom room can_write files k Act = Unit {0}

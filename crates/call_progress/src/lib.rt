@@ -4,7 +4,7 @@
 //! `next_kind`, `next_piece`, `needed_access`, `move_piece`, `take_file_step`, `interrupted_answer`, `fault_answer`,
 //! and `give_back` for `given_back`; `of_call` begins a call with its phases. Only `make_room_for_piece` and
 //! `make_room_for_step` take memory, and they change nothing that those words speak of: after them the piece or the
-//! step takes none and cannot fail. What contracts see of a `Progress` is in specs/Kept, the room that a piece and a
+//! step can't fail. What contracts see of a `Progress` is in specs/Kept, the room that a piece and a
 //! step need in specs/Streams.
 #![tactic(auto)]
 

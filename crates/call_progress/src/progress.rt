@@ -60,7 +60,7 @@ fn piece_of(range: Range) -> Piece
 }
 
 impl Progress {
-    /// The beginning of a call, with all its phases. Takes no memory.
+    /// The beginning of a call, with all its phases. Can't fail.
     pub fn of_call(alloc: Global, call: FileCall, arguments: &[u64; 6]) -> Progress
         ensures { result.progress ≡ starting call arguments.now (phases_of call arguments.now) }
     {
@@ -68,7 +68,7 @@ impl Progress {
     }
 
     /// The beginning of a call, with all its phases, whose streams have no more bytes than a call may move: so
-    /// `phases_of` says of a call's phases. Takes no memory.
+    /// `phases_of` says of a call's phases. Can't fail.
     pub fn starting(alloc: Global, call: FileCall, arguments: &[u64; 6], phases: Phases) -> Progress
         requires { most_left phases ≤ most_moved }
         ensures { result.progress ≡ starting call arguments.now phases }

@@ -23,7 +23,7 @@ put_end files d at moved n (OfConsole guest) = let there = length (console_of fi
 abbrev pub HasPutRoom : (Target → ℕ → Type 0) → Files → ℕ → Option ℕ → ℕ → ℕ → Type 0
 HasPutRoom can_write files d at moved n = let target = (description_of files d).target in can_write target (put_end files d at moved n target)
 
--- what an operation needs, so that it takes no memory
+-- the room that an operation needs
 abbrev pub HasRoom : Room → (Target → ℕ → Type 0) → Files → FileOp → Type 0
 HasRoom room can_write files (Openat dirfd flags) = (1 ≤ room.nodes) × (1 ≤ room.opens)
 HasRoom room can_write files (Mkdirat dirfd) = 1 ≤ room.nodes

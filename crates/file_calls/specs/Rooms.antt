@@ -1,4 +1,4 @@
--- What a store of files can take without memory.
+-- What a store of files has room for.
 use Rattle.std.specs.Prelude.{ℕ}
 
 -- how many nodes, descriptions with a descriptor, pipes, and processes that share descriptors

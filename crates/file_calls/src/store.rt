@@ -21,7 +21,7 @@ use mck_word::{NoMemory, Pid};
 pub trait FileStore: Sized {
     ghost files: { Self → Files };
 
-    // how many nodes, descriptions and pipes can be added, and up to which end a target can be written, without memory
+    // for how many nodes, descriptions and pipes there is room, and up to which end of a target
     ghost room: { Self → Room };
 
     ghost can_write: { Self → target → ℕ → Type 0 };

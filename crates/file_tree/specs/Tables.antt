@@ -3,7 +3,7 @@ use Rattle.file_model.specs.Files.{Inode}
 use Rattle.mck_word.specs.Maps.{Map}
 use Rattle.std.specs.Prelude.{ℕ}
 
--- the counts, how many more numbers can be counted without memory, and how often a count can still be raised
+-- the counts, for how many more numbers there is room, and how often a count can still be raised
 pub record Tally : Type 0 where
   pub counts : Map ℕ
   pub spare : ℕ
@@ -19,8 +19,8 @@ pub record NodeRow : Type 0 where
 abbrev pub most_numbers : ℕ
 most_numbers = 4_294_967_296
 
--- The nodes by their numbers, how many bytes each has memory for and where it stands, the next number, and how many nodes can be
--- made without memory.
+-- The nodes by their numbers, for how many bytes each has room and where it stands, the next number, and how many nodes can be
+-- made with the room that there is.
 pub record NodeTable : Type 0 where
   pub map : Map Inode
   pub rooms : Map ℕ
@@ -28,8 +28,8 @@ pub record NodeTable : Type 0 where
   pub next : ℕ
   pub spare : ℕ
 
--- The nodes by their numbers, how many bytes each has memory for, the next number, how many nodes can be made without memory, how
--- often each node is held, how many more can be held without memory, and how often a node can still be held.
+-- The nodes by their numbers, for how many bytes each has room, the next number, for how many nodes there is room, how
+-- often each node is held, how many more there is room for, and how often a node can still be held.
 pub record TreeTable : Type 0 where
   pub map : Map Inode
   pub rooms : Map ℕ

@@ -9,7 +9,7 @@ use std::alloc::Global;
 use std::marker::Model;
 
 /// How many there are of each number, seen as the map of those of which there is one, beside `spare`, how many more numbers can be
-/// counted without memory, and `left`, how often a count can still be raised.
+/// counted with the room that there is, and `left`, how often a count can still be raised.
 #[derive(Drop)]
 pub struct Counts {
     rows: Rows<u64>,
@@ -64,7 +64,7 @@ fn lower_row(rows: &mut Rows<u64>, n: u64)
 }
 
 impl Counts {
-    /// Nothing is counted. Takes no memory.
+    /// Nothing is counted. Can't fail.
     pub fn new(alloc: Global) -> Counts
         ensures { result ≡ record { counts = no_rows; spare = 0; left = 2 ^ 64 - 1 } }
     {

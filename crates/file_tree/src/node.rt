@@ -10,7 +10,7 @@ use mck_word::NoMemory;
 use std::alloc::Global;
 use std::marker::Model;
 
-/// A name of at most 255 bytes, seen as its bytes. It takes no memory of its own.
+/// A name of at most 255 bytes, seen as its bytes. It is kept in place.
 #[derive(Drop)]
 pub struct ShortName {
     bytes: ArrayVec<u8, 255>,
@@ -66,7 +66,7 @@ impl Model for FileNode {
 }
 
 impl FileNode {
-    /// A file with those bytes, or a directory, with a name in a directory. Takes no memory.
+    /// A file with those bytes, or a directory, with a name in a directory. Can't fail.
     pub fn new(number: u64, parent: u64, name: &[u8], directory: bool, bytes: Vec<u8>) -> FileNode
         requires { length name.now ≤ 255 }
         ensures number { result.number ≡ number }
@@ -81,7 +81,7 @@ impl FileNode {
         }
     }
 
-    /// The root, which stands in itself. Takes no memory.
+    /// The root, which stands in itself. Can't fail.
     pub fn root(alloc: Global) -> FileNode
         ensures number { result.number ≡ 1 }
         ensures inode { result.inode ≡ empty_directory 1 None }

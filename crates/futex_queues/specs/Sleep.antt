@@ -8,7 +8,7 @@ use Rattle.std.specs.Coded.{Coded, code_by, coded_list, coded_ℕ, coded×}
 use Rattle.std.specs.List.{list_any}
 use Rattle.std.specs.Prelude.{Bool, List, [], cond, false, filter, length, map, refl, suc, take, zero, ℕ, ◌&&◌, ◌==◌, ◌∷◌, ◌≡◌, ◌≤◌}
 
--- the sleepers in the order in which they began to sleep, and how many more can without memory
+-- the sleepers in the order in which they began to sleep, and for how many more there is room
 pub record Queue : Type 0 where
   pub list : List Sleeper
   pub spare : ℕ

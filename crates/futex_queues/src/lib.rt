@@ -1,7 +1,7 @@
 //! The threads that sleep at futex addresses, in the order in which they began to sleep.
 //!
 //! Promises: the sleepers are a list of process, address and thread, in which a thread stands once, beside `spare`, the number of
-//! sleepers that can be added without memory. `wait` adds one at the end, `wake` takes out the first at an address (specs/Sleep).
+//! sleepers that there is room for. `wait` adds one at the end, `wake` takes out the first at an address (specs/Sleep).
 //! FUTEX_WAIT and FUTEX_WAKE are after man-pages section 2, futex; that waiters wake in order is this project's own.
 #![tactic(auto)]
 
@@ -102,7 +102,7 @@ impl Model for Sleepers {
 }
 
 impl Sleepers {
-    /// No sleepers. Takes no memory.
+    /// No sleepers. Can't fail.
     pub fn new(alloc: Global) -> Sleepers
         ensures { result ≡ record { list = []; spare = 0 } }
     {

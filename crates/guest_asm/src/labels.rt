@@ -93,7 +93,7 @@ impl<'a> Labels<'a> {
     ghost use Rattle.guest_asm.specs.Assembly.{with_mark};
     ghost use Rattle.guest_asm.specs.Labels.{marks_in};
 
-    /// No labels. Takes no memory.
+    /// No labels. Can't fail.
     pub fn new(alloc: Global) -> Labels<'a>
         ensures { (name : List ℕ) → marks_in result name ≡ None }
     {

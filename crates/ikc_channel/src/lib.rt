@@ -1,7 +1,7 @@
 //! What the two kernels share of one process: the book of its requests, the round under way, its rings to Linux and the ring back.
 //!
 //! Promises: `Rings` are seen as the lists of their messages by number, with the number that each takes (specs/Lines); posting and
-//! taking are the words of hybrid_model's specs/Rings, in constant time and without memory. The channel is this project's own.
+//! taking are the words of hybrid_model's specs/Rings, in constant time; neither can fail. The channel is this project's own.
 #![tactic(auto)]
 
 ghost use Rattle.hybrid_model.specs.Rings.{all_empty, ring};

@@ -1,4 +1,4 @@
--- What can be put into the tables without memory.
+-- What the tables have room for.
 use Rattle.kernel_tables.specs.declared.tables.KernelTables.{KernelTables}
 use Rattle.std.specs.Prelude.{◌≤◌}
 

@@ -74,7 +74,7 @@ fn first_code_of(x: &Process) -> u8
 }
 
 impl Processes {
-    /// No processes. Takes no memory.
+    /// No processes. Can't fail.
     pub fn new(alloc: Global) -> Processes
         ensures { result ≡ record { map = no_rows; spare = 0 } }
     {

@@ -29,7 +29,7 @@ pub struct KernelTables {
 
 #[tactic(auto, using(crate::proofs::Rows::process_at, crate::proofs::Rows::thread_at, crate::proofs::Rows::all_instructions, crate::proofs::Rows::limit_is, crate::proofs::Rows::next_is))]
 impl KernelTables {
-    /// A node without processes, threads, sleepers and lines. Takes no memory.
+    /// A node without processes, threads, sleepers and lines. Can't fail.
     pub fn new(alloc: Global, frame_count: u32, limit: u64) -> KernelTables
         ensures { (files : Files) → node_of result files ≡ record { processes = no_rows; threads = no_rows; sleepers = []; files = files; unsent = []; next_number = 17; frame_count = frame_count; limit = limit } }
     {

@@ -1,4 +1,4 @@
--- What the store can take without memory.
+-- What the store has room for.
 use Rattle.file_calls.specs.Rooms.{Room}
 use Rattle.file_model.specs.declared.descriptions.Target.TheVariants.{OfConsole, OfNode, ReadEnd, WriteEnd}
 use Rattle.file_model.specs.declared.descriptions.Target.{Target}

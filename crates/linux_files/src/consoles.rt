@@ -35,7 +35,7 @@ impl Model for Consoles {
 
 #[tactic(auto, using(mck_word::specs::EachLaws::each_maps))]
 impl Consoles {
-    /// No consoles. Takes no memory.
+    /// No consoles. Can't fail.
     pub fn new(alloc: Global) -> Consoles
         ensures map { result.map ≡ no_rows }
     {

@@ -38,7 +38,7 @@ fn grown(capacity: usize, end: usize) -> usize
 }
 
 impl Pipe {
-    /// No bytes. Takes no memory.
+    /// No bytes. Can't fail.
     pub fn new() -> Pipe
         ensures { result ≡ buffer [] 0 }
     {

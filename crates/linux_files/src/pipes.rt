@@ -51,7 +51,7 @@ impl RowTest<Pipe> for OpenPipes<'_> {
 
 #[tactic(auto, using(mck_word::specs::EachLaws::each_maps))]
 impl Pipes {
-    /// No pipes. Takes no memory.
+    /// No pipes. Can't fail.
     pub fn new(alloc: Global) -> Pipes
         ensures map { result.map ≡ no_rows }
     {

@@ -25,7 +25,7 @@ fn clear_pages<T: PageTable>(table: &mut T, pool: &mut FramePool)
 }
 
 impl<T: PageTable> Space<T> {
-    /// Takes all pages out, and gives their frames back. No page is mapped then, and the break is 0; no memory is taken.
+    /// Takes all pages out, and gives their frames back. No page is mapped then, and the break is 0. It can't fail.
     pub fn clear(&mut self, alloc: Global, pool: &mut FramePool)
         requires taken { FramesTaken (T.rows self.old.table) pool.old }
         requires apart { FramesApart (T.rows self.old.table) }

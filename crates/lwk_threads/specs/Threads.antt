@@ -20,7 +20,7 @@ pub record Threads (S : Type 0) : Type 0 where
   pub next : ℕ
   pub rows : Map (Thread S)
 
--- the threads, and how many more can be made without memory
+-- the threads, and for how many more there is room
 pub record Spared (S : Type 0) : Type 0 where
   pub threads : Threads S
   pub spare : ℕ

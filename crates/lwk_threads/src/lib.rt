@@ -1,7 +1,7 @@
 //! The thread table of a node: its live threads by number, with their places in their processes.
 //!
-//! Promises: the table is the next number and a finite map from numbers to threads, beside `spare`, the number of threads that can
-//! be made without memory; each call is a word of specs/Threads on it. A thread is found by halving and changed in place, and
+//! Promises: the table is the next number and a finite map from numbers to threads, beside `spare`, the number of threads that
+//! there is room for; each call is a word of specs/Threads on it. A thread is found by halving and changed in place, and
 //! a process's threads are counted and placed by a row that is kept for it, without going through the others. What a clone gets of
 //! its caller is clone's of Linux (man-pages section 2); numbers, places and the limit of sixteen are this project's own.
 #![tactic(auto)]
@@ -69,7 +69,7 @@ impl<S> Model for ThreadTable<S> {
 }
 
 impl<S: Drop> ThreadTable<S> {
-    /// No threads. Takes no memory.
+    /// No threads. Can't fail.
     pub fn new(alloc: Global) -> Self
         ensures { result ≡ record { threads = no_threads; spare = 0 } }
     {

@@ -32,7 +32,7 @@ impl<M: Machine, B: Begun> Model for Node<M, B> {
 }
 
 impl<M: Machine, B: Begun> Node<M, B> {
-    /// The node that begins with this machine. Takes no memory.
+    /// The node that begins with this machine. Can't fail.
     pub fn new(alloc: Global, machine: M) -> Self
         requires start { M.pair machine ≡ B.start }
         requires before { B.before ≡ [] }

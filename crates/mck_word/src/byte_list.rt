@@ -20,7 +20,7 @@ impl Model for Bytes {
 }
 
 impl Bytes {
-    /// No bytes. Takes no memory.
+    /// No bytes. Can't fail.
     pub fn new(alloc: Global) -> Bytes
         ensures { result ≡ [] }
     {

@@ -21,7 +21,7 @@ impl<T> Model for Items<T> {
 }
 
 impl<T> Items<T> {
-    /// No items. Takes no memory.
+    /// No items. Can't fail.
     pub fn new(alloc: Global) -> Items<T>
         ensures { result ≡ [] }
     {

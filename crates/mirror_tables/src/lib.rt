@@ -1,7 +1,7 @@
 //! The mirror of a process's mappings, as its proxy keeps it: rows that the lightweight kernel's table gave on first access.
 //!
-//! Promises: the mirror is a finite map from pages to frames and rights, beside `spare`, the number of rows that can be installed
-//! without memory, and each call is a word of maps on it (specs/Mirror). Only `reserve` takes memory. The mirror is this project's
+//! Promises: the mirror is a finite map from pages to frames and rights, beside `spare`, the number of rows that there is
+//! room for, and each call is a word of maps on it (specs/Mirror). Only `reserve` takes memory. The mirror is this project's
 //! own, after the idea of proxy mappings that are made on first access.
 #![tactic(auto)]
 
@@ -41,7 +41,7 @@ impl Model for Mirror {
 }
 
 impl Mirror {
-    /// No rows. Takes no memory.
+    /// No rows. Can't fail.
     pub fn new(alloc: Global) -> Mirror
         ensures { result ≡ record { map = no_rows; spare = 0 } }
     {

@@ -1,7 +1,7 @@
 //! Numbers that stand in groups, so that a group's numbers are found without looking at those of others.
 //!
-//! Promises: each call is a word of specs/Groups on the map of what stands in which group, beside `spare`, the number of those that can
-//! be put in without memory. The numbers of a group stand together and rise (key_rows), and the next one from a number on is found by
+//! Promises: each call is a word of specs/Groups on the map of what stands in which group, beside `spare`, the number of those that
+//! there is room for. The numbers of a group stand together and rise (key_rows), and the next one from a number on is found by
 //! halving. What takes memory is apart from what puts a number in, which can't fail.
 #![tactic(auto)]
 
@@ -38,7 +38,7 @@ fn key_of(group: u32, number: u32) -> u64
 }
 
 impl Groups {
-    /// No numbers. Takes no memory.
+    /// No numbers. Can't fail.
     pub fn new(alloc: Global) -> Groups
         ensures { result ≡ record { map = no_rows; spare = 0 } }
     {

@@ -3,7 +3,7 @@ use Rattle.file_model.specs.Files.{Inode}
 use Rattle.mck_word.specs.Maps.{Map}
 use Rattle.std.specs.Prelude.{ℕ}
 
--- the nodes, the next number, and how many nodes can be made without memory
+-- the nodes, the next number, and for how many nodes there is room
 pub record NodeTable : Type 0 where
   pub map : Map Inode
   pub next : ℕ

@@ -25,7 +25,7 @@ impl Model for Console {
 }
 
 impl Console {
-    /// A console without output. Takes no memory.
+    /// A console without output. Can't fail.
     pub fn new(alloc: Global, input: Stream) -> Console
         ensures { result ≡ record { input = input; output = [] } }
     {

@@ -34,7 +34,7 @@ impl Model for Consoles {
 }
 
 impl Consoles {
-    /// No consoles. Takes no memory.
+    /// No consoles. Can't fail.
     pub fn new(alloc: Global) -> Consoles
         ensures { result ≡ record { map = no_rows; spare = 0 } }
     {

@@ -65,7 +65,7 @@ fn splice(bytes: &mut Vec<u8>, offset: usize, from: &[u8])
 }
 
 impl FileBytes {
-    /// No bytes. Takes no memory.
+    /// No bytes. Can't fail.
     pub fn new(alloc: Global) -> FileBytes
         ensures { result ≡ [] }
     {

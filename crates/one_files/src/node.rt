@@ -42,7 +42,7 @@ fn is_before(a: &[u8], b: &[u8]) -> bool
 }
 
 impl FileNode {
-    /// A node without bytes, with a name in a directory. Takes no memory.
+    /// A node without bytes, with a name in a directory. Can't fail.
     pub fn new(alloc: Global, parent: u64, name: &[u8], directory: bool) -> FileNode
         requires { length name.now ≤ 255 }
         ensures { result ≡ record { parent = parent; name = Some name.now; directory = directory; bytes = [] } }
@@ -68,7 +68,7 @@ impl FileNode {
         }
     }
 
-    /// The root, which stands in itself. Takes no memory.
+    /// The root, which stands in itself. Can't fail.
     pub fn root(alloc: Global) -> FileNode
         ensures { result ≡ empty_directory 1 None }
     {

@@ -18,7 +18,7 @@ use std::marker::Model;
 /// How many nodes are ever made at most.
 const MOST_NUMBERS: u64 = 4_294_967_296;
 
-/// The nodes by their numbers, seen as their map, the next number, and how many nodes can be made without memory.
+/// The nodes by their numbers, seen as their map, the next number, and for how many nodes there is room.
 #[derive(Drop)]
 pub struct Nodes {
     rows: Rows<FileNode>,

@@ -4,7 +4,7 @@ ghost use Rattle.std.specs.Prelude.{◌≡◌, ◌≤◌, length};
 use arrayvec::ArrayVec;
 use std::marker::Model;
 
-/// A name of at most 255 bytes, seen as its bytes. It takes no memory of its own.
+/// A name of at most 255 bytes, seen as its bytes. It is kept in place.
 #[derive(Drop)]
 pub struct ShortName {
     bytes: ArrayVec<u8, 255>,

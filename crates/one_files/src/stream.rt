@@ -46,7 +46,7 @@ fn drop_front(v: &mut Vec<u8>, n: usize)
 }
 
 impl Stream {
-    /// No bytes. Takes no memory.
+    /// No bytes. Can't fail.
     pub fn new(alloc: Global) -> Stream
         ensures { result ≡ [] }
     {

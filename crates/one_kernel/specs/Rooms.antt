@@ -13,11 +13,11 @@ use Rattle.std.specs.Prelude.{Some, ℕ, ◌≡◌, ◌≤◌}
 abbrev pub OfCall : One → ℕ → (Call → Type 0) → Type 0
 OfCall x t P = (w : Own) (c : Call) → at x.own.map (of_thread (one_of x).node t) ≡ Some w → at w.calls.map t ≡ Some c → P c
 
--- the file step of the thread's call takes no memory
+-- there is room for the file step of the thread's call
 abbrev pub HasFileRoom : One → ℕ → Type 0
 HasFileRoom x t = OfCall x t (λ c. HasRoomForStep (room_of x.files) (can_write_of x.files) (seen x.files) c.progress)
 
--- the next piece of it takes none
+-- there is room for the next piece of it
 abbrev pub HasPieceRoom : One → ℕ → Type 0
 HasPieceRoom x t = OfCall x t (λ c. HasRoomForPiece (room_of x.files) (can_write_of x.files) (seen x.files) c.progress)
 

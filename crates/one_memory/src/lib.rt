@@ -35,7 +35,7 @@ pub use stack::guest_regs;
 use std::alloc::Global;
 use std::marker::Model;
 
-/// The pages of a process, seen as the definition's memory beside the number of pages that can be added without memory.
+/// The pages of a process, seen as the definition's memory beside the number of pages that there is room for.
 #[derive(Drop)]
 pub struct PageRows {
     rows: Rows<PageRow>,
@@ -61,7 +61,7 @@ impl Model for PageRows {
 impl PageRows {
     ghost use Rattle.one_memory.specs.Loans.{lends_page};
 
-    /// No page. Takes no memory.
+    /// No page. Can't fail.
     pub fn new(alloc: Global) -> PageRows
         ensures { result ≡ record { map = no_rows; spare = 0 } }
     {

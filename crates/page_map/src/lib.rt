@@ -1,7 +1,7 @@
 //! Page tables: what a table of a process's pages is, and the plain one.
 //!
-//! Promises: a table is a finite map from pages to frames and rights. Room for a list of ranges lets the pages of the list be put in
-//! without memory, and stays under each insert of its pages, each remove and each change of rights. `PageMap` is a sorted list; the words
+//! Promises: a table is a finite map from pages to frames and rights. Room for a list of ranges is for putting in the pages of the
+//! list, and stays under each insert of its pages, each remove and each change of rights. `PageMap` is a sorted list; the words
 //! stand in specs/Tables, those of maps in mck_word's specs/Maps.
 #![tactic(auto)]
 
@@ -21,7 +21,7 @@ use std::alloc::Global;
 use std::marker::Model;
 
 /// A page table, seen as a finite map from pages to frames and rights. Room for a list of ranges
-/// lets the pages of the list be put in without memory.
+/// is for putting in the pages of the list.
 pub trait PageTable: Sized {
     ghost rows: { Self → Map (frame × rights) };
 

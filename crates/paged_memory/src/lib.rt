@@ -28,7 +28,7 @@ pub struct PagedRows {
 }
 
 impl PagedRows {
-    /// No pages. Takes no memory.
+    /// No pages. Can't fail.
     pub fn new(alloc: Global) -> PagedRows
         ensures { result.rows.items ≡ [] }
     {

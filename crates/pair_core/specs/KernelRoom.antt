@@ -56,7 +56,7 @@ module _ {T F : Type 0} (rows : T → Map Row) (has_room : T → List PageRange 
       IfAck s.channel.to_lwk.items ((files : Files) → HasAckRoom (has_room s.task.space.table) s.task.space.areas.spare (process_of (node_of x.lwk.node files) p) (memory (rows s.task.space.table) x.lwk.frames) (length x.lwk.pool.free)
       (change_in (thread_of (node_of x.lwk.node files) (changing_in s.task.changing)).does))
 
-  -- the event takes no memory
+  -- there is room for the event
   abbrev pub HasKernelRoom : (F → Files) → Event → Parts T F → Type 0
   HasKernelRoom files (Trap t) x = HasTrapRoom x (of_thread (node_of x.lwk.node (files x.files)) t.0) t.0
   HasKernelRoom files (Intake p) x = (s : Side T) → at x.sides.map p.0 ≡ Some s → HasRoundRoom x p.0 s

@@ -30,14 +30,14 @@ linux_process (Finish p w) = Some p.0
 linux_process (AckClear p) = Some p.0
 linux_process _ = None
 
--- the first message of a ring can be taken without memory
+-- there is room for taking the first message of a ring
 abbrev pub HasFetchRoom : Option Msg → Proxy → Type 0
 HasFetchRoom (Some (messages.Request c)) p = HasServiceRoom p
 HasFetchRoom (Some (messages.Answer w page number row)) p = HasMirrorRoom p
 HasFetchRoom _ p = Unit {0}
 
 module _ {T F : Type 0} (room : F → Room) (can_write : F → Target → ℕ → Type 0) (files : F → Files) where
-  -- the event takes no memory
+  -- there is room for the event
   abbrev pub HasLinuxRoom : Event → Parts T F → Type 0
   HasLinuxRoom (Fetch p r) x = (s : Side T) → at x.sides.map p.0 ≡ Some s → HasFetchRoom (head_of (ring r s.channel.to_linux.messages)) s.proxy
   HasLinuxRoom (Copy p w) x = (s : Side T) → at x.sides.map p.0 ≡ Some s → HasCopyRoom (room x.files) (can_write x.files) (files x.files) s.proxy w

@@ -1,4 +1,4 @@
--- The room for an event: it takes no memory.
+-- The room for an event.
 use Rattle.file_calls.specs.Rooms.{Room}
 use Rattle.file_model.specs.Files.{Files}
 use Rattle.file_model.specs.declared.descriptions.Target.{Target}

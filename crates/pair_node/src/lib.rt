@@ -2,8 +2,8 @@
 //!
 //! Promises: a `Pair` is in a state that is coherent, lasts and is small (node_machine, Reached), and tells whether an
 //! event may happen in it (hybrid_model, Events), what each actor offers (node_machine, Offers) and what a report says
-//! of it (run_summary, Summaries). Where room was made for an event, it happens: the state after it is the
-//! definition's, and takes no memory. The step of the one-kernel machine that an event stands for is told too
+//! of it (run_summary, Summaries). Where room was made for an event, it happens, and can't fail: the state
+//! after it is the definition's. The step of the one-kernel machine that an event stands for is told too
 //! (hybrid_model, Images). Its live threads are listed by core and by process (specs/Listed), so that an actor's own
 //! threads are found without a look at others. An actor that is asked finds its process once, and each thread of it
 //! once.

@@ -56,7 +56,7 @@ pub fn is_quiet(event: &Event) -> bool
 }
 
 impl Members {
-    /// No threads. Takes no memory.
+    /// No threads. Can't fail.
     pub fn new(alloc: Global) -> Members
         ensures { (cores : ℕ) → IsListed nobody cores result }
     {

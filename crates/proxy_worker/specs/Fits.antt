@@ -35,10 +35,10 @@ FetchFits (Reply q code) p b o = Unit {0}
 FetchFits Ack p b o = Unit {0}
 FetchFits (Fault w page a) p b o = Unit {0}
 
--- the file step of the worker's request takes no memory
+-- there is room for the file step of the worker's request
 abbrev pub HasActRoom : Room → (Target → ℕ → Type 0) → Files → Proxy → ℕ → Type 0
 HasActRoom room can_write files p w = (k : ServiceOf) → at p.services.map (serves (linux_of p) w) ≡ Some k → HasRoomForStep room can_write files k.progress
 
--- the next piece of the worker's request takes no memory
+-- there is room for the next piece of the worker's request
 abbrev pub HasCopyRoom : Room → (Target → ℕ → Type 0) → Files → Proxy → ℕ → Type 0
 HasCopyRoom room can_write files p w = (k : ServiceOf) → at p.services.map (serves (linux_of p) w) ≡ Some k → HasRoomForPiece room can_write files k.progress

@@ -24,14 +24,14 @@ turns_of t = each shown_turn t.rows.map
 
 -- ---- room
 
--- a turn can be taken without memory
+-- there is room for a turn
 abbrev pub HasTurnRoom : Turns → Type 0
 HasTurnRoom t = 1 ≤ t.rows.spare
 
--- a request can be fetched without memory
+-- there is room for a request that is fetched
 abbrev pub HasServiceRoom : Proxy → Type 0
 HasServiceRoom p = 1 ≤ p.services.spare
 
--- a row can be installed without memory
+-- there is room for a row that is installed
 abbrev pub HasMirrorRoom : Proxy → Type 0
 HasMirrorRoom p = 1 ≤ p.mirror.spare

@@ -4,7 +4,7 @@
 //! Promises: each event of the Linux side has a file of its name, whose method of `Proxy` leaves what hybrid_model's
 //! file of that name says, over the side that the proxy shows (specs/Shown) and what the method is handed: the book of
 //! requests, the round, the files, the turns, the bytes of a page. Each `may_` method is the test of that name. Only
-//! room calls, `reserve_..` and `make_room_for_..`, take memory; an event takes none and cannot fail. Proxies, workers
+//! room calls, `reserve_..` and `make_room_for_..`, take memory; an event can't fail. Proxies, workers
 //! and turns are this project's own.
 #![tactic(auto)]
 

@@ -24,7 +24,7 @@ pub struct Proxy {
 }
 
 impl Proxy {
-    /// The proxy of a new process. Takes no memory.
+    /// The proxy of a new process. Can't fail.
     pub fn new(alloc: Global) -> Proxy
         ensures { linux_of result ≡ no_linux }
     {
@@ -77,7 +77,7 @@ impl Proxy {
         self.mirror.reserve()
     }
 
-    /// Drops the whole mirror, as at a process's end. Takes no memory.
+    /// Drops the whole mirror, as at a process's end. Can't fail.
     pub fn drop_mirror(&mut self, alloc: Global)
         ensures { linux_of self.new ≡ record (linux_of self.old) { mirror = no_rows } }
     {

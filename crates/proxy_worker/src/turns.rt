@@ -25,7 +25,7 @@ pub struct Turns {
 
 #[tactic(auto, using(mck_word::specs::EachLaws::each_maps))]
 impl Turns {
-    /// No turns. Takes no memory.
+    /// No turns. Can't fail.
     pub fn new(alloc: Global) -> Turns
         ensures { turns_of result ≡ no_rows }
     {

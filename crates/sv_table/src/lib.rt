@@ -4,7 +4,7 @@
 //! root, whose key is 0, by the index of a page on each level. An entry has bit 0 where it is present; on the last level it has
 //! the rights from bit 1 on and the frame from bit 10 on, above it the key of the node below from bit 10 on. No node but the
 //! root is without an entry. A look-up is three loads. `reserve` makes places for the nodes that the pages lack, so what puts
-//! a page in takes no memory. specs/Walks says what a walk is, specs/Trees what is kept, specs/Room what room is.
+//! a page in can't fail. specs/Walks says what a walk is, specs/Trees what is kept, specs/Room what room is.
 #![tactic(auto)]
 
 mod node;
