@@ -9,4 +9,5 @@ pub mod Reaped
 pub mod Resting
 pub mod Shown
 pub mod Sound
+pub mod Trapping
 pub mod Wired

@@ -7,24 +7,24 @@ ghost use Rattle.ikc_channel.specs.declared.Channel.{Channel as channels};
 ghost use Rattle.isa_model.specs.declared.stops.Stop.TheVariants as stops;
 ghost use Rattle.kernel_model.specs.Calls.{one_of_calls};
 ghost use Rattle.kernel_model.specs.LocalCalls.{answers};
-ghost use Rattle.kernel_model.specs.Nodes.{is_stopped, process_of, thread_of};
+ghost use Rattle.kernel_model.specs.Nodes.{is_stopped, thread_of};
 ghost use Rattle.kernel_model.specs.CallPhases.{Phase};
 ghost use Rattle.kernel_model.specs.Progress.{starting};
 ghost use Rattle.kernel_model.specs.Signals.{on_node, raised, signal_of_stop};
 ghost use Rattle.kernel_model.specs.Traps.{Begins, call_named, called, past_ecall, trap, trap_of_stop};
 ghost use Rattle.kernel_tables.specs.Shown.{node_of};
 ghost use Rattle.lwk_side.specs.Begins.{begins_at, begins_call, names_delegated};
-ghost use Rattle.lwk_side.specs.Changing.{HasTrappedRoom, HeapFits};
-ghost use Rattle.lwk_side.specs.Cloning.{MayClone, calls_fork, forks_at, names_fork};
+ghost use Rattle.lwk_side.specs.Changing.{HasTrappedRoom};
+ghost use Rattle.lwk_side.specs.Cloning.{calls_fork, forks_at, names_fork};
 ghost use Rattle.lwk_side.specs.Resting.{MayRest};
 ghost use Rattle.lwk_side.specs.Shown.{Rest, here_of};
 ghost use Rattle.lwk_side.specs.Sound.{IsSound, KeepsFrames, KeepsRings};
-ghost use Rattle.lwk_side.specs.Wired.{HasPlace, Wired};
+ghost use Rattle.lwk_side.specs.Trapping.{CallFits, CanBegin, IsOfProcess};
+ghost use Rattle.lwk_side.specs.Wired.{HasPlace};
 ghost use Rattle.lwk_views.specs.Views.{seen};
 ghost use Rattle.mck_word.specs.Words.{refused};
-ghost use Rattle.std.specs.Prelude.{◌≡◌, ◌<◌, ◌-◌, ◌≤◌, ◌^◌, List, Some, false, get_or, length, true, ℕ};
+ghost use Rattle.std.specs.Prelude.{◌≡◌, ◌<◌, List, Some, false, get_or, length, true, ℕ};
 ghost use Rattle.system_calls.specs.declared.LocalCall.TheVariants.{Futex};
-ghost use Rattle.system_calls.specs.declared.SystemCall.TheVariants.{Clone, Local};
 
 use crate::kernel::Lwk;
 use crate::task::Task;
@@ -92,11 +92,8 @@ impl Lwk {
         call: FileCall,
         args: &[u64; 6],
     )
-        requires wired { Wired self.old channel.old.to_linux }
+        requires begin { CanBegin self.old task.old channel.old }
         requires place { HasPlace self.old channel.old.to_linux t.0 }
-        requires room { 1 ≤ channel.old.book.spare }
-        requires callers { 1 ≤ task.old.callers.spare }
-        requires more { channel.old.book.requests.next < 2 ^ 64 - 1 }
         ensures after { (r : Rest) (p : ℕ) (phases : List Phase) → here_of self.new (T.rows task.new.space.table) task.new channel.new r
             ≡ (let h = here_of self.old (T.rows task.old.space.table) task.old channel.old r in
             trapped p t.0 (Begins (past_ecall t.0 (view_here h)).node (starting call args.now phases)) h) }
@@ -118,16 +115,11 @@ impl Lwk {
         regs: &Regs,
     )
         requires sound { IsSound self.old (T.rows task.old.space.table) }
-        requires wired { Wired self.old channel.old.to_linux }
+        requires begin { CanBegin self.old task.old channel.old }
         requires place { names_delegated regs.now ≡ true → HasPlace self.old channel.old.to_linux t.0 }
-        requires room { 1 ≤ channel.old.book.spare }
-        requires callers { 1 ≤ task.old.callers.spare }
-        requires more { channel.old.book.requests.next < 2 ^ 64 - 1 }
-        requires rest { call_named regs.now ≡ Some (Local Futex) → MayRest self.old.node t.0 }
-        requires clone { call_named regs.now ≡ Some Clone → MayClone self.old.node t.0 }
+        requires fits { CallFits self.old.node t.0 regs.now }
         requires no_fork { names_fork regs.now ≡ false }
-        requires own { (files : Files) → (thread_of (node_of self.old.node files) t.0).process ≡ p.0 }
-        requires heap { (files : Files) → HeapFits (process_of (node_of self.old.node files) p.0) }
+        requires own { IsOfProcess self.old.node p.0 t.0 }
         requires change { (files : Files) → HasTrappedRoom (T.has_room task.old.space.table) task.old.space.areas.spare p.0
             (called t.0 (length self.old.pool.free) regs.now (past_ecall t.0 (seen (T.rows task.old.space.table) self.old.node self.old.frames files)) (call_named regs.now)) }
         ensures after { (r : Rest) → here_of self.new (T.rows task.new.space.table) task.new channel.new r
@@ -157,16 +149,11 @@ impl Lwk {
         stop: Stop,
     )
         requires sound { IsSound self.old (T.rows task.old.space.table) }
-        requires wired { Wired self.old channel.old.to_linux }
+        requires begin { CanBegin self.old task.old channel.old }
         requires place { (files : Files) → begins_at (thread_of (node_of self.old.node files) t.0).regs (Some stop) ≡ true → HasPlace self.old channel.old.to_linux t.0 }
-        requires room { 1 ≤ channel.old.book.spare }
-        requires callers { 1 ≤ task.old.callers.spare }
-        requires more { channel.old.book.requests.next < 2 ^ 64 - 1 }
-        requires rest { (files : Files) → call_named (thread_of (node_of self.old.node files) t.0).regs ≡ Some (Local Futex) → MayRest self.old.node t.0 }
-        requires clone { (files : Files) → call_named (thread_of (node_of self.old.node files) t.0).regs ≡ Some Clone → MayClone self.old.node t.0 }
+        requires fits { (files : Files) → CallFits self.old.node t.0 (thread_of (node_of self.old.node files) t.0).regs }
         requires no_fork { (files : Files) → forks_at (thread_of (node_of self.old.node files) t.0).regs (Some stop) ≡ false }
-        requires own { (files : Files) → (thread_of (node_of self.old.node files) t.0).process ≡ p.0 }
-        requires heap { (files : Files) → HeapFits (process_of (node_of self.old.node files) p.0) }
+        requires own { IsOfProcess self.old.node p.0 t.0 }
         requires change { (files : Files) → HasTrappedRoom (T.has_room task.old.space.table) task.old.space.areas.spare p.0
             (trap_of_stop t.0 (length self.old.pool.free) (seen (T.rows task.old.space.table) self.old.node self.old.frames files) (Some stop)) }
         ensures after { (r : Rest) → here_of self.new (T.rows task.new.space.table) task.new channel.new r
@@ -188,17 +175,12 @@ impl Lwk {
     /// The trap of a stopped thread of the process that is no fork.
     pub fn trap<T: PageTable>(&mut self, task: &mut Task<T>, channel: &mut Channel, p: Pid, t: Tid)
         requires sound { IsSound self.old (T.rows task.old.space.table) }
-        requires wired { Wired self.old channel.old.to_linux }
+        requires begin { CanBegin self.old task.old channel.old }
         requires place { (files : Files) → begins_call (node_of self.old.node files) t.0 ≡ true → HasPlace self.old channel.old.to_linux t.0 }
-        requires room { 1 ≤ channel.old.book.spare }
-        requires callers { 1 ≤ task.old.callers.spare }
-        requires more { channel.old.book.requests.next < 2 ^ 64 - 1 }
-        requires rest { (files : Files) → call_named (thread_of (node_of self.old.node files) t.0).regs ≡ Some (Local Futex) → MayRest self.old.node t.0 }
-        requires clone { (files : Files) → call_named (thread_of (node_of self.old.node files) t.0).regs ≡ Some Clone → MayClone self.old.node t.0 }
+        requires fits { (files : Files) → CallFits self.old.node t.0 (thread_of (node_of self.old.node files) t.0).regs }
         requires no_fork { (files : Files) → calls_fork (node_of self.old.node files) t.0 ≡ false }
         requires stopped { (files : Files) → is_stopped (thread_of (node_of self.old.node files) t.0).does ≡ true }
-        requires own { (files : Files) → (thread_of (node_of self.old.node files) t.0).process ≡ p.0 }
-        requires heap { (files : Files) → HeapFits (process_of (node_of self.old.node files) p.0) }
+        requires own { IsOfProcess self.old.node p.0 t.0 }
         requires change { (files : Files) → HasTrappedRoom (T.has_room task.old.space.table) task.old.space.areas.spare p.0
             (trap t.0 (length self.old.pool.free) (seen (T.rows task.old.space.table) self.old.node self.old.frames files)) }
         ensures event { (r : Rest) → here_of self.new (T.rows task.new.space.table) task.new channel.new r

@@ -7,8 +7,9 @@ ghost use Rattle.kernel_model.specs.Progress.{starting};
 ghost use Rattle.kernel_model.specs.declared.Does.TheVariants.{Called};
 ghost use Rattle.lwk_side.specs.Sound.{KeepsFrames, KeepsRings};
 ghost use Rattle.lwk_side.specs.Shown.{Rest, here_of};
-ghost use Rattle.lwk_side.specs.Wired.{HasPlace, Wired};
-ghost use Rattle.std.specs.Prelude.{◌≡◌, ◌<◌, ◌-◌, ◌≤◌, ◌^◌, List};
+ghost use Rattle.lwk_side.specs.Trapping.{CanBegin};
+ghost use Rattle.lwk_side.specs.Wired.{HasPlace};
+ghost use Rattle.std.specs.Prelude.{◌≡◌, ◌<◌, List};
 
 use crate::kernel::Lwk;
 use crate::task::{Caller, Task};
@@ -31,11 +32,8 @@ impl Lwk {
         call: FileCall,
         args: &[u64; 6],
     )
-        requires wired { Wired self.old channel.old.to_linux }
+        requires begin { CanBegin self.old task.old channel.old }
         requires place { HasPlace self.old channel.old.to_linux t.0 }
-        requires room { 1 ≤ channel.old.book.spare }
-        requires callers { 1 ≤ task.old.callers.spare }
-        requires more { channel.old.book.requests.next < 2 ^ 64 - 1 }
         ensures after { (r : Rest) (phases : List Phase) → here_of self.new (T.rows task.new.space.table) task.new channel.new r
             ≡ (let h = here_of self.old (T.rows task.old.space.table) task.old channel.old r in
             with_node (with_side h (begin_call (ring_of h t.0) t.0 (starting call args.now phases) h.side)) (set_does t.0 Called h.node)) }

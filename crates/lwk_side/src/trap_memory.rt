@@ -4,12 +4,13 @@ ghost use Rattle.hybrid_model.specs.OneProcess.{view_here};
 ghost use Rattle.hybrid_model.specs.Trap.{trapped};
 ghost use Rattle.ikc_channel.specs.declared.Channel.{Channel as channels};
 ghost use Rattle.kernel_model.specs.MemoryCalls.{decide};
-ghost use Rattle.kernel_model.specs.Nodes.{process_of, thread_of};
+ghost use Rattle.kernel_model.specs.Nodes.{process_of};
 ghost use Rattle.kernel_model.specs.Traps.{decided};
 ghost use Rattle.kernel_tables.specs.Shown.{node_of};
 ghost use Rattle.lwk_side.specs.Changing.{HasDecidedRoom, HasTrappedRoom, HeapFits, IsAhead, memory_call};
 ghost use Rattle.lwk_side.specs.Shown.{Rest, here_of};
 ghost use Rattle.lwk_side.specs.Sound.{IsSound, KeepsFrames};
+ghost use Rattle.lwk_side.specs.Trapping.{IsOfProcess};
 ghost use Rattle.lwk_space.specs.Lacks.{memory};
 ghost use Rattle.lwk_views.specs.Views.{seen};
 ghost use Rattle.offer_laws.specs.ChangeFits.{DecisionFits};
@@ -74,8 +75,7 @@ impl Lwk {
         args: &[u64; 6],
     )
         requires sound { IsSound self.old (T.rows task.old.space.table) }
-        requires own { (files : Files) → (thread_of (node_of self.old.node files) t.0).process ≡ p.0 }
-        requires heap { (files : Files) → HeapFits (process_of (node_of self.old.node files) p.0) }
+        requires own { IsOfProcess self.old.node p.0 t.0 }
         requires room { (files : Files) → HasTrappedRoom (T.has_room task.old.space.table) task.old.space.areas.spare p.0
             (memory_call t.0 (length self.old.pool.free) call args.now (seen (T.rows task.old.space.table) self.old.node self.old.frames files)) }
         ensures after { (c : channels) (r : Rest) → here_of self.new (T.rows task.new.space.table) task.new c r

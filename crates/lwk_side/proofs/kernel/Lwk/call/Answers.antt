@@ -29,7 +29,7 @@ returns-in-None-clause-after g c = λ r.
 pub clones-requires-clause-clone : goal.clones-requires-clause-clone
 clones-requires-clause-clone g c =
     let named : Some Clone ≡ call_named c.args.regs.now = sym (ap (λ x. Some x) c.in-Some-Clone.field-0-is) ∙ c.in-Some-Clone.ensures in
-    c.requires.clone (sym named)
+    c.requires.fits.clone (sym named)
 
 pub returns-in-Some-Clone-clause-after : goal.returns-in-Some-Clone-clause-after
 returns-in-Some-Clone-clause-after g c = λ r.
@@ -50,7 +50,7 @@ returns-in-Some-Clone-clause-after g c = λ r.
 pub calls_locally-requires-clause-rest : goal.calls_locally-requires-clause-rest
 calls_locally-requires-clause-rest g c = λ e.
     let named : Some (Local c.in-Some-Local.call) ≡ call_named c.args.regs.now = sym (ap (λ x. Some x) c.in-Some-Local.field-0-is) ∙ c.in-Some-Local.ensures in
-    c.requires.rest (sym named ∙ ap (λ x. Some (Local x)) e)
+    c.requires.fits.rest (sym named ∙ ap (λ x. Some (Local x)) e)
 
 pub returns-in-Some-Local-clause-after : goal.returns-in-Some-Local-clause-after
 returns-in-Some-Local-clause-after g c = λ r.

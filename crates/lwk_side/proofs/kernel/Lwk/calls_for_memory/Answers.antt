@@ -31,7 +31,7 @@ does_as_planned-requires-clause-room g c = λ files.
     subst (λ (n : Node). HasDecidedRoom has_room spare (process_of n p).program_break (decision c.plans_memory_call-plan.result)) (sym e)
     (subst (λ (x : Decision). HasDecidedRoom has_room spare (process_of (past_ecall t v).node p).program_break x) (sym d)
     (decided-room has_room spare p t (past_ecall t v) (decision_of t (length lwk.pool.free) c.args.call c.args.args.now v p)
-    (subst (λ (x : Trapped). HasTrappedRoom has_room spare p x) (sym (memory-call-by p t (length lwk.pool.free) c.args.call c.args.args.now v (c.requires.own files))) (c.requires.room files))))
+    (subst (λ (x : Trapped). HasTrappedRoom has_room spare p x) (sym (memory-call-by p t (length lwk.pool.free) c.args.call c.args.args.now v (c.requires.own.own files))) (c.requires.room files))))
 
 pub does_as_planned-requires-clause-ahead : goal.does_as_planned-requires-clause-ahead
 does_as_planned-requires-clause-ahead g c = λ files.
@@ -51,4 +51,4 @@ returns-clause-after g c = λ channel r.
     c.plans_memory_call-plan.ensures.is r.files ∙ ap (λ (n : Node). decide (process_of n p) (memory rows lwk.frames) (length lwk.pool.free) c.args.call c.args.args.now) e in
     c.does_as_planned.ensures.after channel r
     ∙ (λ i. trapped p t (decided t (view_here (with_node h (e i))) (d i)) (with_node h (e i)))
-    ∙ memory-call-is p t c.args.call c.args.args.now h (c.requires.own r.files)
+    ∙ memory-call-is p t c.args.call c.args.args.now h (c.requires.own.own r.files)

@@ -11,6 +11,7 @@ use Rattle.lwk_side.specs.Begins.{begins_at, names_delegated}
 use Rattle.lwk_side.specs.Cloning.{forks_at, names_fork}
 use Rattle.lwk_side.specs.Changing.{HasTrappedRoom}
 use Rattle.lwk_side.specs.Shown.{here_of}
+use Rattle.lwk_side.specs.Trapping.{CallFits}
 use Rattle.lwk_views.specs.Views.{seen}
 use Rattle.mck_word.specs.declared.Regs.{Regs}
 use Rattle.std.proofs.Common.{ap, subst, sym, ◌∙◌}
@@ -20,11 +21,9 @@ pub call-requires-clause-place : goal.call-requires-clause-place
 call-requires-clause-place g c = λ e. c.requires.place root_only
     (ap (λ (s : Stop). begins_at (thread_of (node_of c.args.self.now.node root_only) c.args.t.0).regs (Some s)) c.in-Ecall.is ∙ ap names_delegated (sym (c.regs-regs.ensures root_only)) ∙ e)
 
-pub call-requires-clause-rest : goal.call-requires-clause-rest
-call-requires-clause-rest g c = λ e. c.requires.rest root_only (ap call_named (sym (c.regs-regs.ensures root_only)) ∙ e)
-
-pub call-requires-clause-clone : goal.call-requires-clause-clone
-call-requires-clause-clone g c = λ e. c.requires.clone root_only (ap call_named (sym (c.regs-regs.ensures root_only)) ∙ e)
+pub call-requires-clause-fits : goal.call-requires-clause-fits
+call-requires-clause-fits g c =
+    subst (λ (x : Regs). CallFits c.args.self.now.node c.args.t.0 x) (sym (c.regs-regs.ensures root_only)) (c.requires.fits root_only)
 
 pub call-requires-clause-no_fork : goal.call-requires-clause-no_fork
 call-requires-clause-no_fork g c =

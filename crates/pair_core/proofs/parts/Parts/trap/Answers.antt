@@ -41,19 +41,17 @@ trap-requires g c =
     let own = ap (λ (side : SideOf). side.book.next) (side-is g.T.PageTable.rows g.F.FileStore.files x p s there) in
     record {
       sound = sound-table g.T.PageTable.rows g.F.FileStore.files x p s there sound.coherent c.requires.kept;
-      wired = rings;
+      begin = record { wired = rings; room = room.0; callers = room.1; more = omega (arith, next, own) };
       place = λ files e. place-of g.T.PageTable.rows g.F.FileStore.files x p s there (Trap c.args.t) t process
           (begun-posts p t h refl (begins-any x.lwk.node t files (g.F.FileStore.files x.files) e) (own-ring x.lwk s.channel.to_linux t rings))
           (c.no_ring_is_full.ensures.room pair (Trap c.args.t) sound.coherent c.requires.ready.may) c.requires.kept;
-      room = room.0;
-      callers = room.1;
-      more = omega (arith, next, own);
-      rest = λ files e. may-rest x.lwk.node (g.F.FileStore.files x.files) t sound.coherent.sleeping sound.coherent.places may c.requires.room.sleeper;
-      clone = λ files e. may-clone g.T.PageTable.rows g.F.FileStore.files x t sound may c.requires.room.thread;
+      fits = λ files. record {
+        rest = λ e. may-rest x.lwk.node (g.F.FileStore.files x.files) t sound.coherent.sleeping sound.coherent.places may c.requires.room.sleeper;
+        clone = λ e. may-clone g.T.PageTable.rows g.F.FileStore.files x t sound may c.requires.room.thread;
+      };
       no_fork = c.requires.no_fork;
       stopped = λ files. stopped-any x.lwk.node t (g.F.FileStore.files x.files) files may;
-      own = λ files. sym (c.process_of_thread-p.ensures files);
-      heap = heap-in g.T.PageTable.rows g.F.FileStore.files x sound p;
+      own = record { own = λ files. sym (c.process_of_thread-p.ensures files); heap = heap-in g.T.PageTable.rows g.F.FileStore.files x sound p };
       change = λ files. subst (λ (q : ℕ). HasTrappedRoom (g.T.PageTable.has_room s.task.space.table) s.task.space.areas.spare q (trap t (length x.lwk.pool.free) (seen (g.T.PageTable.rows s.task.space.table) x.lwk.node x.lwk.frames files))) process
           (c.requires.room.change s (ap (λ (q : ℕ). at x.sides.map q) process ∙ there) files);
     }
