@@ -1,0 +1,6 @@
+pub mod Joined
+pub mod Twice
+pub mod OneProcess
+pub mod GoingOn
+pub mod Whole
+pub mod Many
