@@ -1,3 +1,5 @@
 pub mod Images
 pub mod Promised
 pub mod Codes
+pub mod Told
+pub mod Differing

@@ -113,6 +113,17 @@ impl Quanta {
         self.counts.as_slice()
     }
 
+    /// How many instructions they have together.
+    pub fn total(&self) -> u32
+        ensures value { result ≡ sum self.now.counts.items }
+        ensures some { length self.now.counts.items ≤ result }
+        ensures few { result ≤ 4_096 }
+    {
+        // There are 64 counts at most.
+        let _counts = self.counts.as_slice();
+        self.batch.done
+    }
+
     /// The images of the pages that they touched, and of those that were kept before.
     pub fn images(&self) -> &[Image]
         ensures { result.now ≡ self.now.batch.images.rows.items }
