@@ -1,5 +1,5 @@
 -- What the lines of a job keep.
-use Rattle.std.proofs.Common.{◌≡◌, ◌≢◌, ℕ, zero, suc, ◌+◌, ◌-◌, ◌<◌, ◌≤◌, ◌==◌, ◌||◌, ◌&&◌, not, nat_le, nat_lt, List, [], ◌∷◌, ◌++◌, Bool, true, false, All, sum_by, length, Option, Some, None, Result, Ok, Err, is_some, unwrap_or, get_or, drop, length-drop, codes, refl, sym, ap, subst, arith, length-append, if◌then◌else◌}
+use Rattle.std.proofs.Common.{◌≡◌, ◌≢◌, ℕ, zero, suc, ◌+◌, ◌<◌, ◌≤◌, ◌==◌, ◌||◌, ◌&&◌, not, nat_le, List, [], ◌∷◌, ◌++◌, Bool, true, false, All, length, Option, Some, None, Result, Ok, Err, is_some, unwrap_or, get_or, drop, length-drop, codes, refl, sym, ap, subst, arith, length-append, if◌then◌else◌}
 use Rattle.std.specs.List.{list_any}
 use Rattle.std.proofs.lemmas.Bool.Decides.{nat_tests}
 use Rattle.std.proofs.lemmas.List.Elements.{All-push, All-drop}
@@ -12,52 +12,20 @@ use Rattle.job_model.specs.declared.job.InputLine.{InputLine}
 use Rattle.job_text.specs.declared.draft.Draft.{Draft}
 use Rattle.job_text.specs.declared.fault.Why.{Why}
 use Rattle.job_text.specs.Kept.{IsWord, IsGuestLine, IsSignalLine, IsFileLine, IsInputLine, IsWithin, IsDraft, IsJob}
-use Rattle.job_text.specs.Lines.{◌>>=◌, refuse_if, miscounts, in_range, one_number, guest_among, guest_of, sendable, signal_of, add_guest, add_signal, with_signal, add_file, add_input, with_input, has_input, is_key, add_key}
+use Rattle.job_text.specs.Lines.{one_number, guest_among, guest_of, sendable, signal_of, add_guest, add_signal, with_signal, add_file, add_input, with_input, has_input, add_key}
+use Rattle.job_text.specs.Checks.{◌>>=◌, in_range}
 use Rattle.job_text.specs.Paths.{is_path, is_taken, meets}
-use Rattle.job_text.specs.Reading.{is_odd_byte, is_skipped, add_words, add_line, at_line, no_lines}
-use Rattle.job_text.specs.Words.{words_of, word_at, has_empty, is_decimal}
-use Rattle.job_text.proofs.WordLists.{AreVisible, neither, words_visible, words_size, words_kept, word_kept_at, words_behind}
+use Rattle.job_text.specs.Reading.{no_lines}
+use Rattle.job_text.specs.TextLines.{IsLine}
+use Rattle.job_text.specs.Words.{word_at, is_decimal, is_key, miscounts}
+use Rattle.job_text.proofs.Passed.{bound, unrefused, chosen, same, within, range_kept, Counted, counted_words}
+use Rattle.job_text.proofs.WordLists.{neither, word_kept_at, words_behind}
 
--- what the words of a line keep
-pub record IsLine (words : List (List ℕ)) : Type 0 where
-  pub visible : All AreVisible words
-  pub small : sum_by (λ w. length w + 1) words ≤ 1025
-
--- ---- steps that went on
-
-bound : {A B E : Type 0} (r : Result A E) (f : A → Result B E) (y : B) → (r >>= f) ≡ Ok y → (x : A) × (r ≡ Ok x) × (f x ≡ Ok y)
-bound (Ok x) f y h = (x, refl, h)
-bound (Err e) f y h = cc
-
-unrefused : {A : Type 0} (b : Bool) (why : Why) (rest : Result A Why) (y : A) → refuse_if b why rest ≡ Ok y → (b ≡ false) × (rest ≡ Ok y)
-unrefused true why rest y h = cc
-unrefused false why rest y h = (refl, h)
-
-chosen : (b : Bool) (why : Why) (n m : ℕ) → (let r : Result ℕ Why = if b then Ok n else Err why in r) ≡ Ok m → (b ≡ true) × (n ≡ m)
-chosen true why n m h = (refl, cc)
-chosen false why n m h = cc
+-- ---- numbers of a line
 
 passed : (b : Bool) (why : Why) (n m : ℕ) → (let r : Result ℕ Why = if b then Err why else Ok n in r) ≡ Ok m → (b ≡ false) × (n ≡ m)
 passed true why n m h = cc
 passed false why n m h = (refl, cc)
-
-same : {A E : Type 0} (x y : A) → (let r : Result A E = Ok x in r) ≡ Ok y → x ≡ y
-same x y h = cc
-
-both : (b c : Bool) → (b && c) ≡ true → (b ≡ true) × (c ≡ true)
-both true c h = (refl, h)
-both false c h = cc
-
-within : (least most n m : ℕ) → (nat_le least n && nat_le n most) ≡ true → n ≡ m → IsWithin least most m
-within least most n m h e =
-    let t = both (nat_le least n) (nat_le n most) h in
-    let low : least ≤ n = grind (arith, nat_tests, t.0) in
-    let high : n ≤ most = grind (arith, nat_tests, t.1) in
-    (omega arith, omega arith)
-
-range_kept : (least most : ℕ) (o : Option ℕ) (n : ℕ) → in_range least most o ≡ Ok n → IsWithin least most n
-range_kept least most None n h = cc
-range_kept least most (Some m) n h = let t = chosen (nat_le least m && nat_le m most) _ m n h in within least most m n t.0 t.1
 
 number_kept : (old : Option ℕ) (least most : ℕ) (words : List (List ℕ)) (n : ℕ) → one_number old least most words ≡ Ok n → IsWithin least most n
 unfolding one_number
@@ -86,26 +54,6 @@ signal_kept word n h =
     let s = sendable_kept t.0 n t.2 in
     let r = range_kept 1 64 (number_of word) t.0 t.1 in
     ((omega (arith, r.0, s.0), omega (arith, r.1, s.0)), s.1)
-
--- ---- the words behind a key
-
-counted : (least most : ℕ) (words : List (List ℕ)) → miscounts least most words ≡ false → (least < length words) × (length words - 1 ≤ most) × (has_empty words ≡ false)
-counted least most words h =
-    let a = neither (nat_le (length words) least) (nat_lt most (length words - 1) || has_empty words) h in
-    let b = neither (nat_lt most (length words - 1)) (has_empty words) a.1 in
-    let low : least < length words = grind (arith, nat_tests, a.0) in
-    let high : length words - 1 ≤ most = grind (arith, nat_tests, b.0) in
-    (low, high, b.1)
-
--- the words of a line that passed Count
-record Counted (least most : ℕ) (words : List (List ℕ)) : Type 0 where
-  low : least < length words
-  high : length words - 1 ≤ most
-  kept : All IsWord words
-
-counted_words : (least most : ℕ) (words : List (List ℕ)) → IsLine words → miscounts least most words ≡ false → Counted least most words
-counted_words least most words line h =
-    let t = counted least most words h in record { low = t.0; high = t.1; kept = words_kept words t.2 line.visible }
 
 -- ---- what each kind of line adds
 
@@ -375,7 +323,7 @@ either_kept : (b : Bool) (x y : Result Draft Why) (new : Draft) → (x ≡ Ok ne
 either_kept true x y new f g h = f h
 either_kept false x y new f g h = g h
 
-add_key_kept : (d new : Draft) (line : ℕ) (key : List ℕ) (words : List (List ℕ)) → IsLine words → IsDraft d → add_key d line key words ≡ Ok new → IsDraft new
+pub add_key_kept : (d new : Draft) (line : ℕ) (key : List ℕ) (words : List (List ℕ)) → IsLine words → IsDraft d → add_key d line key words ≡ Ok new → IsDraft new
 unfolding add_key
 add_key_kept d new line key words l k h =
     either_kept (is_key (codes "frames") key) _ _ new (frames_kept d new words k)
@@ -387,26 +335,6 @@ add_key_kept d new line key words l k h =
     (either_kept (is_key (codes "signal") key) _ _ new (add_signal_kept d new line words k)
     (either_kept (is_key (codes "file") key) _ _ new (add_file_kept d new line words l k)
     (either_kept (is_key (codes "input") key) _ _ new (add_input_kept d new line words l k) (λ e. cc))))))))) h
-
-line_words : (bytes : List ℕ) → nat_lt 1024 (length bytes) ≡ false → list_any is_odd_byte bytes ≡ false → IsLine (words_of bytes)
-line_words bytes h e =
-    let short : length bytes ≤ 1024 = grind (arith, nat_tests, h) in
-    record { visible = words_visible bytes e; small = omega (arith, words_size bytes) }
-
-add_line_kept_by : (d new : Draft) (line : ℕ) (bytes : List ℕ) → IsDraft d → add_line d line bytes ≡ Ok new → IsDraft new
-unfolding add_line
-add_line_kept_by d new line bytes k h =
-    let short = unrefused (nat_lt 1024 (length bytes)) _ _ new h in
-    let even = unrefused (list_any is_odd_byte bytes) _ _ new short.1 in
-    either_kept (is_skipped bytes) (Ok d) (add_words d line (words_of bytes)) new (λ e. subst IsDraft (same d new e) k)
-    (add_key_kept d new line (word_at (words_of bytes) 0) (words_of bytes) (line_words bytes short.0 even.0) k) even.1
-
-same_line : (line : ℕ) (r : Result Draft Why) (new : Draft) → at_line line r ≡ Ok new → r ≡ Ok new
-same_line line (Ok d) new h = ap (λ x. Ok x) (same d new h)
-same_line line (Err why) new h = cc
-
-pub add_line_kept : (d new : Draft) (line : ℕ) (bytes : List ℕ) → IsDraft d → at_line line (add_line d line bytes) ≡ Ok new → IsDraft new
-add_line_kept d new line bytes k h = add_line_kept_by d new line bytes k (same_line line (add_line d line bytes) new h)
 
 pub none_kept : IsDraft no_lines
 none_kept = record {
@@ -425,10 +353,6 @@ none_kept = record {
   inputs = λ k d i. absurd (omega arith);
   once = λ i j d h w. absurd (omega arith);
 }
-
--- the lines of a new draft
-pub no_draft : (guests : List GuestLine) (signals : List SignalLine) (files : List FileLine) (inputs : List InputLine) → guests ≡ [] → signals ≡ [] → files ≡ [] → inputs ≡ [] → (let made : Draft = record { frames = None; cores = None; workers = None; rings = None; limit = None; guests = guests; signals = signals; files = files; inputs = inputs } in made) ≡ no_lines
-no_draft guests signals files inputs a b c e = cc
 
 pub job_kept : (d : Draft) (frames cores workers rings limit : ℕ) → IsDraft d → d.frames ≡ Some frames → length d.guests ≢ 0 → cores ≡ unwrap_or d.cores 1 → workers ≡ unwrap_or d.workers 2 → rings ≡ unwrap_or d.rings 1 → limit ≡ unwrap_or d.limit 1000000 → IsJob (record {
   frames = frames;

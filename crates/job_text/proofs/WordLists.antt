@@ -1,5 +1,5 @@
 -- What the words of a line keep.
-use Rattle.std.proofs.Common.{◌≡◌, ℕ, zero, suc, ◌+◌, ◌<◌, ◌≤◌, ◌==◌, ◌||◌, cond, List, [], ◌∷◌, Bool, true, false, All, sum_by, length, get_or, drop, refl, sym, ◌∙◌, subst, arith}
+use Rattle.std.proofs.Common.{◌≡◌, ℕ, zero, suc, ◌+◌, ◌<◌, ◌≤◌, ◌==◌, ◌||◌, nat_lt, cond, List, [], ◌∷◌, Bool, true, false, All, sum_by, length, get_or, drop, refl, sym, ◌∙◌, subst, arith}
 use Rattle.std.specs.List.{list_any, onto_first}
 use Rattle.std.specs.Str.{IsAscii}
 use Rattle.std.proofs.lemmas.Bool.Decides.{nat_tests}
@@ -7,14 +7,11 @@ use Rattle.std.proofs.lemmas.List.Sums.{sum_by-cons}
 use Rattle.std.proofs.lemmas.Option.{unwrap_or-slice_get}
 use Rattle.std.proofs.lemmas.Str.{IsUtf8-from_ascii}
 use Rattle.job_text.specs.Kept.{IsWord}
-use Rattle.job_text.specs.Reading.{is_odd_byte}
+use Rattle.job_text.specs.TextLines.{AreVisible, IsLine, is_odd_byte}
 use Rattle.job_text.specs.Words.{words_of, word_at, is_empty, has_empty}
 
 abbrev pub IsVisible : ℕ → Type 0
 IsVisible b = (33 ≤ b) × (b ≤ 126)
-
-abbrev pub AreVisible : List ℕ → Type 0
-AreVisible word = All IsVisible word
 
 pub neither : (b c : Bool) → (b || c) ≡ false → (b ≡ false) × (c ≡ false)
 neither true c h = cc
@@ -91,3 +88,9 @@ words_size (b ∷ bs) = split_size b (words_of bs) (b == 32) (words_some bs) ∙
 pub words_behind : (words : List (List ℕ)) → 0 < length words → sum_by (λ w. length w + 1) (drop 1 words) + 1 ≤ sum_by (λ w. length w + 1) words
 words_behind [] h = absurd (omega arith)
 words_behind (w ∷ ws) h = omega (arith, sum_by-cons (λ x. length x + 1) w ws)
+
+-- the words of a line that passed its first two checks
+pub line_words : (bytes : List ℕ) → nat_lt 1024 (length bytes) ≡ false → list_any is_odd_byte bytes ≡ false → IsLine (words_of bytes)
+line_words bytes h e =
+    let short : length bytes ≤ 1024 = grind (arith, nat_tests, h) in
+    record { visible = words_visible bytes e; small = omega (arith, words_size bytes) }

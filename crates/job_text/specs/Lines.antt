@@ -1,5 +1,5 @@
 -- The checks of each kind of line, in their order, and what the line adds to those before it.
-use Rattle.std.specs.Prelude.{ℕ, ◌-◌, ◌==◌, ◌&&◌, ◌||◌, not, nat_lt, nat_le, bytes_eq, codes, List, [], ◌∷◌, ◌++◌, length, drop, Bool, true, false, Option, Some, None, is_some, Result, Ok, Err, if◌then◌else◌}
+use Rattle.std.specs.Prelude.{ℕ, ◌==◌, ◌&&◌, ◌||◌, not, nat_le, codes, List, [], ◌∷◌, ◌++◌, length, drop, Bool, false, Option, Some, None, is_some, Result, Ok, Err, if◌then◌else◌}
 use Rattle.std.specs.List.{list_any}
 use Rattle.mck_word.specs.Numbers.{number_of}
 use Rattle.job_model.specs.declared.job.GuestLine.{GuestLine}
@@ -7,25 +7,9 @@ use Rattle.job_model.specs.declared.job.InputLine.{InputLine}
 use Rattle.job_text.specs.declared.draft.Draft.{Draft}
 use Rattle.job_text.specs.declared.fault.Why.{Why}
 use Rattle.job_text.specs.declared.fault.Why.TheVariants.{Keyword, Count, Repeat, TooMany, Number, Guest, Path}
+use Rattle.job_text.specs.Checks.{◌>>=◌, refuse_if, in_range}
 use Rattle.job_text.specs.Paths.{is_path, is_taken}
-use Rattle.job_text.specs.Words.{word_at, has_empty, is_decimal}
-
-infixl 10 ◌>>=◌
-abbrev pub ◌>>=◌ : {A B E : Type 0} → Result A E → (A → Result B E) → Result B E
-(Ok x) >>= f = f x
-(Err e) >>= f = Err e
-
-abbrev pub refuse_if : {A : Type 0} → Bool → Why → Result A Why → Result A Why
-refuse_if true why rest = Err why
-refuse_if false why rest = rest
-
--- whether not so many words stand behind the key, or one is empty
-abbrev pub miscounts : ℕ → ℕ → List (List ℕ) → Bool
-miscounts least most words = nat_le (length words) least || (nat_lt most (length words - 1) || has_empty words)
-
-abbrev pub in_range : ℕ → ℕ → Option ℕ → Result ℕ Why
-in_range least most None = Err Number
-in_range least most (Some n) = if nat_le least n && nat_le n most then Ok n else Err Number
+use Rattle.job_text.specs.Words.{word_at, miscounts, is_decimal, is_key}
 
 -- the number of a key that may stand once
 unfoldable pub one_number : Option ℕ → ℕ → ℕ → List (List ℕ) → Result ℕ Why
@@ -90,9 +74,6 @@ add_input d line words =
     (refuse_if (not (is_decimal (word_at words 1))) Number
     (guest_of d.guests (word_at words 1) >>= λ guest.
     Ok (with_input d line guest (word_at words 2)))))
-
-abbrev pub is_key : List ℕ → List ℕ → Bool
-is_key key word = bytes_eq word key
 
 -- the line that begins with a key
 unfoldable pub add_key : Draft → ℕ → List ℕ → List (List ℕ) → Result Draft Why

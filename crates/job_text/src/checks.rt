@@ -1,15 +1,15 @@
 // The checks of each kind of line, and what the line adds.
 ghost use Rattle.std.specs.Prelude.{◌≡◌, ◌==◌, ◌≤◌, ℕ, Option, is_some, IfOk, length};
 ghost use Rattle.std.specs.List.{list_any};
-ghost use Rattle.job_text.specs.Lines.{miscounts, one_number, guest_of, signal_of, in_range, add_guest, add_signal, add_file, add_input, add_key, has_input};
-ghost use Rattle.job_text.specs.Reading.{LineGives};
+ghost use Rattle.job_text.specs.Lines.{one_number, guest_of, signal_of, add_guest, add_signal, add_file, add_input, add_key, has_input};
+ghost use Rattle.job_text.specs.TextLines.{LineGives};
 ghost use Rattle.job_text.specs.Words.{word_at};
 ghost use Rattle.mck_word.specs.Numbers.{number_of};
 
 use crate::draft::Draft;
 use crate::fault::{LineError, Why};
 use crate::paths::{is_path, is_taken};
-use crate::words::{Words, is_decimal};
+use crate::words::{Words, in_range, is_decimal};
 use job_model::{FileLine, GuestLine, InputLine, SignalLine};
 use mck_word::{Bytes, read_number};
 use std::alloc::Global;
@@ -22,24 +22,6 @@ const MOST_FILES: usize = 64;
 
 const MOST_INSTRUCTIONS: u64 = 4_000_000;
 
-// Whether not so many words stand behind the key, or one is empty.
-fn miscounts(least: usize, most: usize, words: &Words) -> bool
-    ensures { result ≡ miscounts least most words.now }
-{
-    words.len() <= least || most < words.len() - 1 || words.has_empty()
-}
-
-fn in_range(least: u64, most: u64, word: &[u8]) -> Result<u64, Why>
-    ensures value { result ≡ in_range least most (number_of word.now) }
-    ensures low { IfOk result (λ n. least ≤ n) }
-    ensures high { IfOk result (λ n. n ≤ most) }
-{
-    match read_number(word) {
-        Some(n) if least <= n && n <= most => Ok(n),
-        _ => Err(Why::Number),
-    }
-}
-
 // The number of a key that may stand once.
 #[tactic(auto, unfolding(crate::specs::Lines::one_number))]
 fn read_one(seen: bool, least: u64, most: u64, words: &Words) -> Result<u64, Why>
@@ -47,7 +29,7 @@ fn read_one(seen: bool, least: u64, most: u64, words: &Words) -> Result<u64, Why
     ensures low { IfOk result (λ n. least ≤ n) }
     ensures high { IfOk result (λ n. n ≤ most) }
 {
-    if miscounts(1, 1, words) {
+    if words.miscounts(1, 1) {
         return Err(Why::Count);
     }
     if seen {
@@ -83,7 +65,7 @@ fn read_signal(word: &[u8]) -> Result<u32, Why>
 fn add_guest(alloc: Global, draft: &mut Draft, line: u64, words: &Words) -> Result<(), LineError>
     ensures { LineGives draft.new result (add_guest draft.old line words.now) }
 {
-    if miscounts(1, 64, words) {
+    if words.miscounts(1, 64) {
         return Err(LineError::Broken(Why::Count));
     }
     if MOST_GUESTS <= draft.guests.len() {
@@ -99,7 +81,7 @@ fn add_signal(draft: &mut Draft, line: u64, words: &Words) -> Result<(), LineErr
     requires { length draft.old.guests ≤ 16 }
     ensures { LineGives draft.new result (add_signal draft.old line words.now) }
 {
-    if miscounts(3, 3, words) {
+    if words.miscounts(3, 3) {
         return Err(LineError::Broken(Why::Count));
     }
     if MOST_SIGNALS <= draft.signals.len() {
@@ -124,7 +106,7 @@ fn add_signal(draft: &mut Draft, line: u64, words: &Words) -> Result<(), LineErr
 fn add_file(alloc: Global, draft: &mut Draft, line: u64, words: &Words) -> Result<(), LineError>
     ensures { LineGives draft.new result (add_file draft.old line words.now) }
 {
-    if miscounts(2, 2, words) {
+    if words.miscounts(2, 2) {
         return Err(LineError::Broken(Why::Count));
     }
     if MOST_FILES <= draft.files.len() {
@@ -164,7 +146,7 @@ fn add_input(alloc: Global, draft: &mut Draft, line: u64, words: &Words) -> Resu
     requires { length draft.old.guests ≤ 16 }
     ensures { LineGives draft.new result (add_input draft.old line words.now) }
 {
-    if miscounts(2, 2, words) {
+    if words.miscounts(2, 2) {
         return Err(LineError::Broken(Why::Count));
     }
     if has_input(draft.inputs.as_slice(), words.at(1)) {

@@ -52,6 +52,23 @@ pub enum JobFault {
     Missing(Key),
 }
 
+/// The first line of a text that breaks a check. Lines count from 1.
+#[derive(Clone, Copy, Debug, PartialEq, Eq, Error)]
+#[error("line {line} {why}")]
+pub struct BrokenLine {
+    pub line: u64,
+    pub why: Why,
+}
+
+/// Why the lines of a text were not taken.
+#[derive(Clone, Copy, Debug, PartialEq, Eq, Error)]
+pub enum TextError {
+    #[error("{0}")]
+    Broken(BrokenLine),
+    #[error("no memory")]
+    NoMemory,
+}
+
 /// Why no job was read.
 #[derive(Clone, Copy, Debug, PartialEq, Eq, Error)]
 pub enum JobError {
@@ -91,5 +108,21 @@ impl From<Why> for LineError {
 
     fn from(why: Why) -> LineError {
         LineError::Broken(why)
+    }
+}
+
+impl From<TextError> for JobError {
+    ghost use Rattle.std.specs.Prelude.{◌≡◌};
+    ghost use Rattle.job_text.specs.Reading.{error_of};
+
+    ghost from_gives = { λ error e. e ≡ error_of error };
+
+    fn from(error: TextError) -> JobError {
+        match error {
+            TextError::Broken(BrokenLine { line, why }) => {
+                JobError::Fault(JobFault::Line { line, why })
+            }
+            TextError::NoMemory => JobError::NoMemory,
+        }
     }
 }

@@ -1,10 +1,13 @@
 // The words of a line.
 ghost use Rattle.std.specs.Prelude.{◌≡◌, ◌==◌, ◌≤◌, ◌<◌, ◌+◌, [], List, ℕ, IfOk, length, drop, map, slice_get, unwrap_or};
-ghost use Rattle.job_text.specs.Words.{words_of, word_at, has_empty, is_digit, is_decimal};
+ghost use Rattle.job_text.specs.Checks.{in_range};
+ghost use Rattle.job_text.specs.Words.{words_of, word_at, has_empty, is_digit, is_decimal, miscounts};
+ghost use Rattle.mck_word.specs.Numbers.{number_of};
 ghost use Rattle.std.specs.List.{list_any, list_all};
 
+use crate::fault::Why;
 use job_model::ArgList;
-use mck_word::{Bytes, Items, NoMemory};
+use mck_word::{Bytes, Items, NoMemory, read_number};
 use std::alloc::{AllocError, Global};
 use std::marker::Model;
 
@@ -55,6 +58,13 @@ impl<'a> Words<'a> {
         any_empty(&self.words)
     }
 
+    /// Whether not so many stand behind the key, or one is empty.
+    pub fn miscounts(&self, least: usize, most: usize) -> bool
+        ensures { result ≡ miscounts least most self.now }
+    {
+        self.len() <= least || most < self.len() - 1 || self.has_empty()
+    }
+
     /// Copies of the words from a place on.
     pub fn copies(&self, alloc: Global, from: usize) -> Result<ArgList, NoMemory>
         requires { from ≤ length self.now }
@@ -85,6 +95,18 @@ fn copies_of(alloc: Global, words: &[&[u8]]) -> Result<ArgList, NoMemory>
         args.push(Bytes::from_slice(alloc, word)?)?;
     }
     Ok(args)
+}
+
+/// The number that a word is, if it lies in the range.
+pub fn in_range(least: u64, most: u64, word: &[u8]) -> Result<u64, Why>
+    ensures value { result ≡ in_range least most (number_of word.now) }
+    ensures low { IfOk result (λ n. least ≤ n) }
+    ensures high { IfOk result (λ n. n ≤ most) }
+{
+    match read_number(word) {
+        Some(n) if least <= n && n <= most => Ok(n),
+        _ => Err(Why::Number),
+    }
 }
 
 /// Whether the bytes are a decimal number, of any size, without a leading zero.

@@ -1,12 +1,24 @@
 // What is told of a text.
 use guest_asm::assemble;
 use job_text::read_job;
+use plan_text::read_plan;
 use std::alloc::{AllocError, Global};
 
 /// That a job reads, or why not.
 pub fn tell_job(alloc: Global, text: &[u8]) -> Result<String, AllocError> {
     match read_job(alloc, text) {
         Ok(_job) => String::from_str(alloc, "reads"),
+        Err(error) => format!(in alloc; "{error}"),
+    }
+}
+
+/// How many commands a plan that reads has, or why not.
+pub fn tell_plan(alloc: Global, text: &[u8]) -> Result<String, AllocError> {
+    match read_plan(alloc, text) {
+        Ok(plan) => {
+            let count = plan.commands.len();
+            format!(in alloc; "reads {count}")
+        }
         Err(error) => format!(in alloc; "{error}"),
     }
 }

@@ -1,7 +1,7 @@
 use Rattle.std.proofs.Common.{◌≡◌, ◌-◌, ◌≤◌, false, length, take}
 use Rattle.std.specs.List.{list_any}
-use Rattle.job_text.specs.Reading.{is_line_feed}
-use Rattle.job_text.proofs.read.cut_line.Given as goal
+use Rattle.job_text.specs.TextLines.{is_line_feed}
+use Rattle.job_text.proofs.text_lines.cut_line.Given as goal
 
 abbrev pub invariant-loop-done : goal.invariant-loop-done
 invariant-loop-done l = record {
