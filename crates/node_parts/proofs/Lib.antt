@@ -1,0 +1,9 @@
+pub mod Giving
+pub mod Going
+pub mod Owning
+pub mod ByPlace
+pub mod OnCourse
+pub mod Mixing
+pub mod Turning
+pub mod Whole
+pub mod Kept
