@@ -86,7 +86,7 @@ def assembled(lines):
 def main():
     if shutil.which("llvm-mc") is None or "riscv64" not in subprocess.run(["llvm-mc", "--version"], text=True, stdout=subprocess.PIPE).stdout:
         print("skipped: no llvm-mc for riscv64")
-        return
+        sys.exit(77)
     rng = random.Random(1)
     rows = [row for _ in range(20) for row in some(rng)]
     words = assembled([text for text, _ in rows])

@@ -6,9 +6,8 @@
 #   guest/programs.sh [FOLDER [NAME..]]
 #
 # FOLDER keeps the sources and images for the next time; without one they are made in a temporary folder, which is
-# removed. The names are those of `all` below. MIRROR and SUITE say where sources come from. MCEXEC names the program;
-# the launcher, where it isn't built, takes a minute for each job. Ends with 1 where a job differs, and with 77 where
-# something was skipped.
+# removed. The names are those of `all` below. MIRROR and SUITE say where sources come from. MCEXEC names the program,
+# else it is the launcher's. Ends with 1 where a job differs, and with 77 where something was skipped.
 set -eu
 here=$(dirname "$(readlink -f "$0")")
 all="lua zlib bzip2 cjson expat figlet mujs picosat scheme"

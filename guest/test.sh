@@ -49,9 +49,19 @@ while read -r name end options words; do
 done <"$room/table"
 
 # What the node lacks is refused, and the function named.
-if "$here/cc" -o "$room/refused" "$here/tests/refused.c" 2>"$room/told" || ! grep -q '^main has LR' "$room/told"; then
-    fails "refused.c: LR isn't refused"
-fi
+while read -r name told; do
+    status=0
+    "$here/cc" -o "$room/refused" "$here/tests/$name.c" 2>"$room/told" || status=$?
+    if [ "$status" -ne 1 ] || [ -e "$room/refused" ] || ! grep -q "^main has $told, at 0x" "$room/told"; then
+        fails "$name.c: $told isn't refused"
+    fi
+done <<'TABLE'
+refused LR
+refused SC
+refused_compressed a compressed instruction
+refused_floating floating point
+refused_control a control register or a privileged instruction
+TABLE
 for flags in "-march=rv64gc -mabi=lp64d" "-march=rv64imac -mabi=lp64"; do
     echo 'double x; int main(void) { x = x + 1; return 0; }' >"$room/other.c"
     if command -v riscv64-unknown-elf-gcc >/dev/null 2>&1; then

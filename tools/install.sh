@@ -1,5 +1,6 @@
 #!/bin/sh
-# Installs the program, its manual page, docs/FORMATS.md and the completion of words for bash below a folder:
+# Installs the program, its manual page, docs/FORMATS.md, the scripts for reports and traces, and the completion of
+# words for bash below a folder:
 #
 #     tools/install.sh PREFIX               the proved program, as `rt ci` or `rt run` has built it
 #     tools/install.sh PREFIX --unproved    an unproved build, built where it isn't yet, which says so at each run
@@ -30,6 +31,12 @@ case $program in
         program=$("$top/tools/program.sh") || exit 125
         ;;
 esac
+case $program in
+    "$top"/out/unproved/*) kind=unproved ;;
+    *) kind=proved ;;
+esac
+room=$(mktemp -d) || fail "no temporary folder can be made"
+trap 'rm -rf "$room"' EXIT
 
 put() {
     if mkdir -p "$(dirname "$3")" && cp "$2" "$3.new" && chmod "$1" "$3.new" && mv "$3.new" "$3"; then
@@ -39,21 +46,31 @@ put() {
     fi
 }
 
-case $program in
-    "$top"/out/unproved/*)
-        put 755 "$program" "$to/lib/mcexec/mcexec-unproved"
-        starter=$(mktemp) || fail "no temporary file can be made"
-        trap 'rm -f "$starter"' EXIT
-        cat >"$starter" <<'END'
+# Puts a text that is made here, from standard input.
+put_text() {
+    cat >"$room/text" || fail "no temporary file can be written"
+    put "$1" "$room/text" "$2"
+}
+
+own=$to/lib/mcexec
+put 755 "$program" "$own/mcexec"
+{ cat "$(dirname "$program")/kit" 2>/dev/null || rt version 2>/dev/null || echo "an unknown tool-kit"; } |
+    put_text 644 "$own/kit" || exit
+{ git -C "$top" describe --always --dirty --abbrev=12 2>/dev/null || echo "of an unknown version"; } |
+    put_text 644 "$own/tools/version" || exit
+for file in start.sh report.py trace_view/convert.py explain/explain.py; do
+    put 755 "$top/tools/$file" "$own/tools/$file"
+done
+for file in words.sh explain/events.py explain/images.py explain/jobs.py trace_view/as_html.py trace_view/as_json.py \
+    trace_view/as_svg.py trace_view/differ.py trace_view/page.html trace_view/page.js trace_view/pictures.py \
+    trace_view/traces.py; do
+    put 644 "$top/tools/$file" "$own/tools/$file"
+done
+put_text 755 "$to/bin/mcexec" <<END
 #!/bin/sh
-echo "mcexec: this run is of an unproved build" >&2
-export ASAN_OPTIONS="abort_on_error=0:exitcode=125${ASAN_OPTIONS:+:$ASAN_OPTIONS}"
-exec "$(dirname "$(dirname "$(readlink -f "$0")")")/lib/mcexec/mcexec-unproved" "$@"
+own=\$(dirname "\$(dirname "\$(readlink -f "\$0")")")/lib/mcexec
+exec "\$own/tools/start.sh" "\$own/mcexec" $kind "\$@"
 END
-        put 755 "$starter" "$to/bin/mcexec"
-        ;;
-    *) put 755 "$program" "$to/bin/mcexec" ;;
-esac
 put 644 "$top/docs/mcexec.1" "$to/share/man/man1/mcexec.1"
 put 644 "$top/docs/FORMATS.md" "$to/share/doc/mcexec/FORMATS.md"
 put 644 "$top/tools/mcexec.bash" "$to/share/bash-completion/completions/mcexec"

@@ -35,10 +35,10 @@ class Install(unittest.TestCase):
         env = {**os.environ, "PATH": "/usr/bin:/bin", **env}
         return subprocess.run(whole, cwd=self.room, env=env, capture_output=True, text=True)
 
-    def built(self):
+    def built(self, does="echo $#"):
         program = self.top / "crates" / "mcexec" / "out" / "mcexec"
         program.parent.mkdir(parents=True)
-        program.write_text("#!/bin/sh\necho $#\n")
+        program.write_text(f"#!/bin/sh\n{does}\n")
         program.chmod(0o755)
 
     def test_no_program(self):
@@ -56,10 +56,34 @@ class Install(unittest.TestCase):
             done = self.install("/usr" if env else "to", **env)
             self.assertEqual((done.returncode, done.stderr), (0, ""))
             found = {str(p.relative_to(to)) for p in to.rglob("*") if p.is_file()}
-            wanted = {"bin/mcexec", "share/man/man1/mcexec.1", "share/doc/mcexec/FORMATS.md"}
-            self.assertEqual(found, wanted | {"share/bash-completion/completions/mcexec"})
+            wanted = {"bin/mcexec", "lib/mcexec/mcexec", "share/man/man1/mcexec.1", "share/doc/mcexec/FORMATS.md"}
+            self.assertLessEqual(wanted | {"share/bash-completion/completions/mcexec"}, found)
+            self.assertEqual(set(done.stdout.split()), {str(to / name) for name in found})
             ran = subprocess.run([to / "bin" / "mcexec", "a", "b"], capture_output=True, text=True)
-            self.assertEqual(ran.stdout, "2\n")
+            self.assertEqual((ran.returncode, ran.stdout, ran.stderr), (0, "2\n", ""))
+
+    def test_what_is_installed_stands_alone(self):
+        self.built('echo "mcexec: trace line 3" >&2; exit 10')
+        to = self.room / "to"
+        self.install("to")
+        shutil.rmtree(self.top)
+        (self.room / "job").write_text("frames 18\nguest hello\n")
+        (self.room / "trace").write_text("mctrace 2\nrun 0 1 64\ntrap 01\n")
+
+        def run(*words):
+            return subprocess.run(words, cwd=self.room, capture_output=True, text=True)
+
+        ran = run(to / "bin" / "mcexec", "replay", "job", "trace")
+        why = 'no entry: the thread is a decimal number without sign or leading zero, here "01"'
+        self.assertEqual((ran.returncode, ran.stderr), (10, f"mcexec: trace line 3\n  trace:3: {why}\n"))
+        self.assertRegex(run(to / "bin" / "mcexec", "--version").stdout, r"^mcexec .+, proved, built by .+\n$")
+        self.assertIn("mcexec walk JOB", run(to / "bin" / "mcexec", "--help").stdout)
+        tools = to / "lib" / "mcexec" / "tools"
+        for form in ("html", "svg", "json"):
+            drawn = run(tools / "trace_view" / "convert.py", form, TOP / "examples" / "hello.trace")
+            self.assertEqual((drawn.returncode, drawn.stderr), (0, ""))
+        told = run(tools / "report.py", "console", "1", TOP / "examples" / "hello.report")
+        self.assertEqual((told.returncode, told.stdout), (0, "hello"))
 
 
 class Completion(unittest.TestCase):

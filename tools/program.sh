@@ -96,6 +96,7 @@ if [ ! -x "$room/copy" ]; then
     fail "the program wasn't built: rt try ended with status $(cat "$room/status" 2>/dev/null || echo unknown)"
 fi
 rm -f "$kept/sum"
+rt version >"$kept/kit" 2>/dev/null || rm -f "$kept/kit"
 if ! cp "$room/copy" "$kept/$name.new" || ! mv "$kept/$name.new" "$kept/$name" || ! echo "$before" >"$kept/sum"; then
     fail "the build can't be kept in $kept"
 fi

@@ -205,6 +205,9 @@ function draw() {
   pen.restore();
   drawEdges(first, last);
   pen.fillText(note, LEFT + 4, height - 6);
+  for (const [id, line] of [["first", data.line + first], ["last", data.line + last]]) {
+    if (document.activeElement !== element(id)) element(id).value = line;
+  }
   const ms = (performance.now() - begun).toFixed(1), shown = `${data.line + first}..${data.line + last}`;
   Object.assign(document.body.dataset, { events: count, boxes, rows: rows.length, window: shown, ms });
 }
@@ -277,8 +280,6 @@ function begin() {
   const all = [[0, "all"], ...data.groups.filter(([group]) => group > 0)];
   for (const [group, name] of all) element("process").append(new Option(name, String(group)));
   element("process").onchange = () => choose(Number(element("process").value));
-  element("first").value = data.line;
-  element("last").value = data.line + count - 1;
   element("show").onclick = () => showLines(Number(element("first").value), Number(element("last").value));
   element("in").onclick = () => zoom(1.6, (width + LEFT) / 2);
   element("out").onclick = () => zoom(1 / 1.6, (width + LEFT) / 2);

@@ -1,14 +1,10 @@
 #!/usr/bin/env python3
-"""Tries convert.py on hello.trace, on made traces and on broken ones, and its page in a browser where one is installed.
-
-Ends with 0 where all is as expected."""
+"""Tries convert.py on hello.trace, on made traces and on broken ones. browser_test.py tries its page in a browser."""
 
 import json
 import re
-import shutil
 import subprocess
 import sys
-import tempfile
 import unittest
 import xml.etree.ElementTree as xml
 from pathlib import Path
@@ -18,11 +14,11 @@ sys.dont_write_bytecode = True
 sys.path.insert(0, str(HERE))
 import traces  # noqa: E402
 from differ import difference_of  # noqa: E402
+from made import long_trace  # noqa: E402
 from pictures import KIND_OF, Picture  # noqa: E402
 
 HELLO = (HERE / "hello.trace").read_text()
 SVG = "{http://www.w3.org/2000/svg}"
-BROWSERS = ("chromium", "chromium-browser", "google-chrome", "chrome")
 ROUND = "mctrace 2\nrun 0 1 8\ntrap 1\nbegin 1\nfetch 1\nmiss 1 0\nack 1\nintake 1\nintake 1\n"
 
 
@@ -33,15 +29,6 @@ def run(*words, text=None):
 
 def picture(text, guests=()):
     return Picture(traces.events_of(text), guests)
-
-
-def long_trace(count):
-    """Requests of four processes with a pin each, interleaved."""
-    words = ["run {0} {1} 64", "trap {1}", "fetch {1}", "assign {1} 0", "act {1} 0", "pin {1} 0", "copy {1} 0"]
-    words += ["unpin {1} 0", "finish {1} 0", "intake {1}"]
-    lines = [[word.format(p % 2, p) for word in words] for p in range(1, 5)]
-    picked = [lines[k % 4][k // 4 % 10] for k in range(count)]
-    return "mctrace 2\n" + "".join(line + "\n" for line in picked)
 
 
 class Reading(unittest.TestCase):
@@ -205,41 +192,6 @@ class Differing(unittest.TestCase):
         text, same = difference_of(events[:3], events, ("a", "b"))
         self.assertEqual((text.split("\n")[1], same), ("< a ends before it", False))
         self.assertEqual(run("diff", HERE / "hello.trace", "-", text="mctrace 2\n").returncode, 1)
-
-
-class Browser(unittest.TestCase):
-    def setUp(self):
-        self.browser = next(filter(None, map(shutil.which, BROWSERS)), None)
-        if not self.browser:
-            print("skipped: no browser is installed, so the page wasn't tried in one", file=sys.stderr)
-            self.skipTest("no browser is installed, so the page wasn't tried in one")
-
-    def shown(self, text, address=""):
-        with tempfile.TemporaryDirectory() as room:
-            page = Path(room) / "page.html"
-            page.write_text(run("html", "-", text=text).stdout)
-            whole = [self.browser, "--headless", "--no-sandbox", "--disable-gpu", "--window-size=1200,700"]
-            whole += [f"--user-data-dir={room}/profile", "--virtual-time-budget=3000", "--dump-dom"]
-            whole.append(f"{page.as_uri()}{address}")
-            done = subprocess.run(whole, capture_output=True, text=True, timeout=120)
-        body = re.search(r"<body([^>]*)>", done.stdout)
-        self.assertTrue(body, done.stderr[-500:])
-        return dict(re.findall(r'data-([a-z]+)="([^"]*)"', body[1]))
-
-    def test_all_is_drawn(self):
-        told = self.shown(HELLO)
-        self.assertEqual((told["events"], told["boxes"], told["rows"], told["window"]), ("17", "17", "4", "2..18"))
-
-    def test_a_long_trace_is_quick(self):
-        text = long_trace(100_000)
-        told = self.shown(text)
-        self.assertEqual(told["events"], "100000")
-        self.assertLess(int(told["boxes"]), 40_000)
-        self.assertLess(float(told["ms"]), 1000)
-        told = self.shown(text, "#500..599&process=3")
-        self.assertEqual(told["rows"], "5")  # two cores, a kernel, a proxy, a worker
-        self.assertRegex(told["window"], r"^500\.\.(599|600)$")
-        self.assertLessEqual(int(told["boxes"]), 26)
 
 
 if __name__ == "__main__":

@@ -14,8 +14,8 @@ NUMBERS = {
     "unpark": ("process", "request"),
     "script": ("signal",),
 }
-NUMBER = re.compile(r"0|[1-9][0-9]{0,9}")
-MOST_NUMBER = 2**32 - 1
+NUMBER = re.compile(r"0|[1-9][0-9]{0,19}")
+MOST_NUMBER, MOST_REQUEST = 2**32 - 1, 2**64 - 1
 
 
 class BadTrace(Exception):
@@ -28,18 +28,31 @@ class Event(NamedTuple):
     numbers: tuple
 
 
-def event_of(line, place, version):
+def why_no_entry(line, version):
+    """Why a line is no entry, or None."""
     word, *rest = line.split(" ")
-    names = NUMBERS.get(word, ())
-    counts = (1, 2) if word == "fetch" else (len(names),)
-    if not names or len(rest) not in counts or not all(NUMBER.fullmatch(n) for n in rest):
+    names = NUMBERS.get(word)
+    if names is None:
+        return f'"{word}" is no event' if word else "the line is empty" if not rest else "the line begins with a space"
+    if len(rest) not in ((1, 2) if word == "fetch" else (len(names),)):
+        return f"behind {word} stand {' and '.join(names)}, here {len(rest)} words"
+    for name, text in zip(names, rest):
+        if not NUMBER.fullmatch(text):
+            return f'the {name} is a decimal number without sign or leading zero, here "{text}"'
+        if int(text) > (MOST_REQUEST if name == "request" else MOST_NUMBER):
+            return f"the {name} {text} is too large"
+    if word == "fetch" and rest[1:] == ["0"]:
+        return "ring 0 is left out: fetch and the process alone"
+    if version == 1 and (word == "wait" or word == "fetch" and len(rest) == 2):
+        return "a trace of mctrace 1 has no such line"
+    return None
+
+
+def event_of(line, place, version):
+    if why_no_entry(line, version):
         raise BadTrace(place + 2)
-    numbers = tuple(map(int, rest))
-    is_late = word == "wait" or word == "fetch" and len(numbers) == 2
-    is_ring_zero = word == "fetch" and numbers[1:] == (0,)
-    if max(numbers) > MOST_NUMBER or is_ring_zero or version == 1 and is_late:
-        raise BadTrace(place + 2)
-    return Event(place, word, numbers)
+    word, *rest = line.split(" ")
+    return Event(place, word, tuple(map(int, rest)))
 
 
 def events_of(text):
